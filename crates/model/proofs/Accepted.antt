@@ -1,0 +1,125 @@
+-- Accepted files: no row holds. And back: files at which no row holds are accepted.
+use mathlib.Core.Path.{_≡_, refl, sym, ap, _∙_}
+use mathlib.Core.Bool.{Bool, true, false, true≢false}
+use mathlib.Core.List.{List}
+use Prim.Native.Nat.{ℕ, _+_, _<_}
+use native.Mathlib.Omega.{arith}
+use Rattle.numbers.specs.declared.Found.{Found}
+use Rattle.numbers.specs.declared.Found.the-variants.{At, Nothing}
+use Rattle.numbers.specs.Scan.{firstBad, first-clear, first-none}
+use Rattle.model.specs.declared.Check.{Check}
+use Rattle.model.specs.declared.Verdict.{Verdict}
+use Rattle.model.specs.declared.Verdict.the-variants.{Passed, Failed}
+use Rattle.model.specs.Rows.{_orElse_, plainRow, foundRow, recordRow}
+use Rattle.model.specs.DayFile.{classCount, seriesCount}
+use Rattle.model.specs.DayChecks.{row10, row11, row12, row13, row14, row15, row16, row17, dayCheck}
+use Rattle.model.specs.Batch.{recordCount}
+use Rattle.model.specs.BatchChecks.{row20, row21, row22, row23, row24, row25, row26, batchCheck}
+use Rattle.model.specs.Netting.{row30, nettingCheck}
+use Rattle.model.specs.Calls.{verdict, Accepted}
+
+failed-not : {X : Type 0} (k : Check) → Failed k ≡ Passed → X
+failed-not k e = let z : _≡_ {A = ℕ} 0 1 = cc in absurd (omega arith)
+
+both : (v w : Verdict) → v orElse w ≡ Passed → (v ≡ Passed) × (w ≡ Passed)
+both Passed w e = (refl, e)
+both (Failed k) w e = failed-not k e
+
+join : (v w : Verdict) → v ≡ Passed → w ≡ Passed → v orElse w ≡ Passed
+join v w p q = rw p q
+
+plain : (k : ℕ → Check) (b : Bool) → plainRow k b ≡ Passed → b ≡ false
+plain k true e = failed-not (k 0) e
+plain k false e = refl
+
+plain-back : (k : ℕ → Check) (b : Bool) → b ≡ false → plainRow k b ≡ Passed
+plain-back k b e = rw e
+
+found : (k : ℕ → Check) (f : Found) → foundRow k f ≡ Passed → f ≡ Nothing
+found k (At i) e = failed-not (k i) e
+found k Nothing e = refl
+
+clear : (k : ℕ → Check) (t : ℕ → Bool) (n : ℕ) → recordRow k t n ≡ Passed → (i : ℕ) → i < n → t i ≡ false
+clear k t n e = first-clear t n (found k (firstBad t n) e)
+
+clear-back : (k : ℕ → Check) (t : ℕ → Bool) (n : ℕ) → ((i : ℕ) → i < n → t i ≡ false) → recordRow k t n ≡ Passed
+clear-back k t n h = rw (first-none t n h)
+
+pub record DayRows (d : List ℕ) : Type 0 where
+  pub at10 : row10 d ≡ false
+  pub at11 : row11 d ≡ false
+  pub at12 : (i : ℕ) → i < classCount d + seriesCount d → row12 d i ≡ false
+  pub at13 : (c : ℕ) → c < classCount d → row13 d c ≡ false
+  pub at14 : (c : ℕ) → c < classCount d → row14 d c ≡ false
+  pub at15 : (s : ℕ) → s < seriesCount d → row15 d s ≡ false
+  pub at16 : (s : ℕ) → s < seriesCount d → row16 d s ≡ false
+  pub at17 : (s : ℕ) → s < seriesCount d → row17 d s ≡ false
+
+pub record BatchRows (d b : List ℕ) : Type 0 where
+  pub at20 : row20 b ≡ false
+  pub at21 : row21 b ≡ false
+  pub at22 : (r : ℕ) → r < recordCount b → row22 b r ≡ false
+  pub at23 : (r : ℕ) → r < recordCount b → row23 d b r ≡ false
+  pub at24 : (r : ℕ) → r < recordCount b → row24 d b r ≡ false
+  pub at25 : (r : ℕ) → r < recordCount b → row25 d b r ≡ false
+  pub at26 : (r : ℕ) → r < recordCount b → row26 d b r ≡ false
+  pub at30 : (r : ℕ) → r < recordCount b → row30 d b r ≡ false
+
+module _ (d b : List ℕ) where
+  pub day-passed : Accepted d b → dayCheck d ≡ Passed
+  unfolding verdict
+  day-passed e = both (dayCheck d) _ e .0
+
+  pub day-rows : Accepted d b → DayRows d
+  unfolding dayCheck
+  day-rows e =
+      let a10 = both _ _ (day-passed e) in
+      let a11 = both _ _ (a10 .1) in
+      let a12 = both _ _ (a11 .1) in
+      let a13 = both _ _ (a12 .1) in
+      let a14 = both _ _ (a13 .1) in
+      let a15 = both _ _ (a14 .1) in
+      let a16 = both _ _ (a15 .1) in
+      record {
+        at10 = plain _ _ (a10 .0);
+        at11 = plain _ _ (a11 .0);
+        at12 = clear _ _ _ (a12 .0);
+        at13 = clear _ _ _ (a13 .0);
+        at14 = clear _ _ _ (a14 .0);
+        at15 = clear _ _ _ (a15 .0);
+        at16 = clear _ _ _ (a16 .0);
+        at17 = clear _ _ _ (a16 .1);
+      }
+
+  pub batch-rows : Accepted d b → BatchRows d b
+  unfolding verdict batchCheck nettingCheck
+  batch-rows e =
+      let rest = both (batchCheck d b) (nettingCheck d b) (both (dayCheck d) _ e .1) in
+      let a20 = both _ _ (rest .0) in
+      let a21 = both _ _ (a20 .1) in
+      let a22 = both _ _ (a21 .1) in
+      let a23 = both _ _ (a22 .1) in
+      let a24 = both _ _ (a23 .1) in
+      let a25 = both _ _ (a24 .1) in
+      record {
+        at20 = plain _ _ (a20 .0);
+        at21 = plain _ _ (a21 .0);
+        at22 = clear _ _ _ (a22 .0);
+        at23 = clear _ _ _ (a23 .0);
+        at24 = clear _ _ _ (a24 .0);
+        at25 = clear _ _ _ (a25 .0);
+        at26 = clear _ _ _ (a25 .1);
+        at30 = clear _ _ _ (rest .1);
+      }
+
+  pub rows-accepted : dayCheck d ≡ Passed → BatchRows d b → Accepted d b
+  unfolding verdict batchCheck nettingCheck
+  rows-accepted p r =
+      join _ _ p
+      (join _ _
+      (join _ _ (plain-back _ _ (r .at20))
+      (join _ _ (plain-back _ _ (r .at21))
+      (join _ _ (clear-back _ _ _ (r .at22))
+      (join _ _ (clear-back _ _ _ (r .at23))
+      (join _ _ (clear-back _ _ _ (r .at24)) (join _ _ (clear-back _ _ _ (r .at25)) (clear-back _ _ _ (r .at26))))))))
+      (clear-back _ _ _ (r .at30)))

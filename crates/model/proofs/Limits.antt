@@ -1,0 +1,98 @@
+-- The limits of the fields of accepted files.
+use mathlib.Core.Path.{_≡_, refl, sym, ap, _∙_}
+use mathlib.Core.Bool.{Bool, true, false, not, _&&_, _||_, cond}
+use mathlib.Core.Logic.{_≢_}
+use mathlib.Core.List.{List}
+use Prim.Native.Nat.{ℕ, zero, suc, _+_, _*_, _-_, _≤_, _<_}
+use native.Mathlib.Omega.{arith}
+use borrow.Author.Tests.{lt-ltb, le-ltb, ltb-false, leb-false, eqb-false, ne-eqb}
+use lib.Dec.{leb, ltb, eqb}
+use lib.IntN.{ℤ, pos, negℤ, natAbs}
+use lib.ListN.{length, getD}
+use Rattle.numbers.specs.Scan.{firstBad, hit, first-clear}
+use Rattle.numbers.specs.Lists.{nothing-hit}
+use Rattle.numbers.specs.Abs.{natAbs-neg}
+use Rattle.model.specs.Words.{kind, payload, bits, magnitude, negative}
+use Rattle.model.specs.DayFile.{classCount, seriesCount, classWord, seriesWord, group, offset, multiplier}
+use Rattle.model.specs.DayChecks.{badClassWord, badSeriesWord, badClass, badSeries, row12}
+use Rattle.model.specs.Words.{badWord}
+use Rattle.model.specs.Batch.{batchHeader, recordCount, recordWord, key, place, dvpSize, dvpAmount}
+use Rattle.model.specs.BatchChecks.{badRecordWord, badDvp, row20, row22, row23}
+use Rattle.model.specs.Netting.{net, row30}
+use Rattle.model.proofs.Tests.{or-left, or-right}
+use Rattle.model.proofs.Accepted.{DayRows, BatchRows}
+
+-- a word that is not bad is within its limit
+within : (w k l : ℕ) → badWord w k l ≡ false → payload w ≤ l
+within w k l e = ltb-false l (payload w) (or-right (not (eqb (kind w) k)) (ltb l (payload w)) e)
+
+module _ (d : List ℕ) (r : DayRows d) where
+  module _ (c : ℕ) (h : c < classCount d) where
+    class-good : badClass d c ≡ false
+    unfolding row12
+    class-good =
+        ap (λ (t : Bool). cond t (badClass d c) (badSeries d (c - classCount d))) (sym (lt-ltb c (classCount d) h))
+        ∙ r .at12 c (omega arith)
+
+    class-word : (i : ℕ) → i < 20 → badClassWord d c i ≡ false
+    unfolding badClass
+    class-word =
+        first-clear (badClassWord d c) 20
+        (nothing-hit (firstBad (badClassWord d c) 20) (or-left (hit (firstBad (badClassWord d c) 20)) (ltb 28 (group d c)) class-good))
+
+    pub class-price : (i : ℕ) → i < 20 → i ≢ 0 → i ≢ 9 → payload (classWord d c i) ≤ 500000000
+    unfolding badClassWord
+    class-price i p q o = within (classWord d c i) 3 500000000 (rw (ne-eqb i 0 q, ne-eqb i 9 o) at (class-word i p))
+
+    pub offset-limit : offset d c ≤ 100
+    unfolding badClassWord
+    offset-limit = within (classWord d c 9) 4 100 (class-word 9 (omega arith))
+
+  module _ (s : ℕ) (h : s < seriesCount d) where
+    series-good : badSeries d s ≡ false
+    unfolding row12
+    series-good =
+        let e : (classCount d + s) - classCount d ≡ s = omega arith in
+        ap (badSeries d) (sym e)
+        ∙ ap (λ (t : Bool). cond t (badClass d (classCount d + s)) (badSeries d ((classCount d + s) - classCount d))) (sym (le-ltb (classCount d + s) (classCount d) (omega arith)))
+        ∙ r .at12 (classCount d + s) (omega arith)
+
+    series-word : (i : ℕ) → i < 14 → badSeriesWord d s i ≡ false
+    unfolding badSeries
+    series-word =
+        first-clear (badSeriesWord d s) 14
+        (nothing-hit (firstBad (badSeriesWord d s) 14) (or-left (hit (firstBad (badSeriesWord d s) 14)) (eqb (multiplier d s) 0) series-good))
+
+    pub series-price : (i : ℕ) → i < 14 → i ≢ 0 → i ≢ 1 → payload (seriesWord d s i) ≤ 500000000
+    unfolding badSeriesWord
+    series-price i p q o = within (seriesWord d s i) 3 500000000 (rw (ne-eqb i 0 q, ne-eqb i 1 o) at (series-word i p))
+
+    pub multiplier-least : 1 ≤ multiplier d s
+    unfolding badSeries
+    multiplier-least =
+        let z = eqb-false (multiplier d s) 0 (or-right (hit (firstBad (badSeriesWord d s) 14)) (eqb (multiplier d s) 0) series-good) in
+        omega arith
+
+module _ (d b : List ℕ) (r : BatchRows d b) where
+  pub few-records : recordCount b ≤ 256
+  unfolding row20
+  few-records = ltb-false 256 (recordCount b) (or-right (eqb (length b) 0 || not (eqb (kind (batchHeader b)) 1)) (ltb 256 (recordCount b)) (r .at20))
+
+  module _ (q : ℕ) (h : q < recordCount b) where
+    dvp-size : dvpSize b q ≤ 5000000000000000
+    unfolding row22 badDvp
+    dvp-size =
+        ltb-false 5000000000000000 (dvpSize b q)
+        (or-right (ltb 0 (bits (payload (recordWord b q 3)) 5 23) || (eqb (negative (recordWord b q 3)) 1 && eqb (dvpSize b q) 0)) (ltb 5000000000000000 (dvpSize b q))
+        (or-right (badRecordWord b q) (badDvp b q) (r .at22 q h)))
+
+    signed : (t : Bool) (m : ℕ) → natAbs (cond t (negℤ (pos m)) (pos m)) ≡ m
+    signed true m = natAbs-neg (pos m)
+    signed false m = refl
+
+    pub dvp-limit : natAbs (dvpAmount b q) ≤ 5000000000000000
+    dvp-limit = rw (signed (eqb (negative (recordWord b q 3)) 1) (dvpSize b q)) dvp-size
+
+    pub net-limit : natAbs (net b (key b q)) * multiplier d (place b q) ≤ 10000000
+    unfolding row30
+    net-limit = ltb-false 10000000 (natAbs (net b (key b q)) * multiplier d (place b q)) (r .at30 q h)
