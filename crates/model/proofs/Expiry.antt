@@ -21,7 +21,7 @@ use Rattle.model.proofs.Tests.{and-left, and-right, or-left, or-right, 
 use Rattle.model.proofs.Accepted.{DayRows}
 
 -- key payload, then strike, as one number
-abbrev rank : List ℕ → ℕ → ℕ
+abbrev pub rank : List ℕ → ℕ → ℕ
 rank d s = seriesKey d s * 2 ^ 29 + strike d s
 
 higher : (x y p q : ℕ) → p < 2 ^ 29 → (ltb x y || (eqb x y && ltb p q)) ≡ true → x * 2 ^ 29 + p < y * 2 ^ 29 + q
@@ -45,7 +45,7 @@ module _ (d : List ℕ) (r : DayRows d) where
   next-rank : (s : ℕ) → suc s < seriesCount d → rank d s < rank d (suc s)
   next-rank s h = higher (seriesKey d s) (seriesKey d (suc s)) (strike d s) (strike d (suc s)) (omega arith) (next-lower s h)
 
-  rank-order : (s t : ℕ) → s < t → t < seriesCount d → rank d s < rank d t
+  pub rank-order : (s t : ℕ) → s < t → t < seriesCount d → rank d s < rank d t
   rank-order s t h =
       le-ind (λ (m : ℕ). m < seriesCount d → rank d s < rank d m) (next-rank s)
       (λ m p w l. omega (arith, w (omega arith), next-rank m l)) t h

@@ -18,3 +18,7 @@ pub mod Demand
 pub mod Readable
 pub mod Whole
 pub mod Example
+pub mod Records
+pub mod Together
+pub mod Verdicts
+pub mod Sizes

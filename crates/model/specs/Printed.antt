@@ -17,24 +17,24 @@ use Rattle.model.specs.Calls.{answer, answerOf, report}
 use Rattle.model.specs.Bytes.{wordsOf, row1, row2}
 use Rattle.model.specs.Reading.{countIn, amountIn}
 
--- ---- the heads of lines, with the space behind them: "MARGIN ", "O ", "F ", "TOTAL ", "REFUSED " (Texts spells them)
+-- ---- the heads of lines: "MARGIN", "O", "F", "TOTAL", "REFUSED" (Texts spells them)
 
 abbrev pub marginHead : List ℕ
-marginHead = 77 ∷ 65 ∷ 82 ∷ 71 ∷ 73 ∷ 78 ∷ 32 ∷ []
+marginHead = 77 ∷ 65 ∷ 82 ∷ 71 ∷ 73 ∷ 78 ∷ []
 
 abbrev pub ordinaryHead : List ℕ
-ordinaryHead = 79 ∷ 32 ∷ []
+ordinaryHead = 79 ∷ []
 
 abbrev pub failHead : List ℕ
-failHead = 70 ∷ 32 ∷ []
+failHead = 70 ∷ []
 
 abbrev pub totalHead : List ℕ
-totalHead = 84 ∷ 79 ∷ 84 ∷ 65 ∷ 76 ∷ 32 ∷ []
+totalHead = 84 ∷ 79 ∷ 84 ∷ 65 ∷ 76 ∷ []
 
 abbrev pub refusedHead : List ℕ
-refusedHead = 82 ∷ 69 ∷ 70 ∷ 85 ∷ 83 ∷ 69 ∷ 68 ∷ 32 ∷ []
+refusedHead = 82 ∷ 69 ∷ 70 ∷ 85 ∷ 83 ∷ 69 ∷ 68 ∷ []
 
--- ---- numbers
+-- ---- fields: decimal, one space before each
 
 -- the decimal digits of n, without leading zeros; k bounds how many there are
 unfoldable pub digits : ℕ → ℕ → List ℕ
@@ -50,34 +50,41 @@ abbrev pub signedDecimal : ℤ → List ℕ
 signedDecimal (pos n) = decimal n
 signedDecimal (negsuc n) = 45 ∷ decimal (suc n)
 
--- n amounts from word i on, one space between fields
+abbrev pub numberField : ℕ → List ℕ
+numberField n = 32 ∷ decimal n
+
+-- the n amounts that stand from word i on
 unfoldable pub amountFields : List ℕ → ℕ → ℕ → List ℕ
 amountFields w i zero = []
-amountFields w i (suc zero) = signedDecimal (amountIn w i)
-amountFields w i (suc (suc n)) = signedDecimal (amountIn w i) ++ 32 ∷ amountFields w (i + 3) (suc n)
+amountFields w i (suc n) = amountFields w i n ++ 32 ∷ signedDecimal (amountIn w (i + 3 * n))
 
--- ---- lines; each ends with a newline
+-- ---- lines: a head, its fields, a newline
 
 -- the line that begins at word i: O or F, group, the six amounts
 unfoldable pub lineText : List ℕ → ℕ → List ℕ
 lineText w i =
     cond (eqb (bits (payload (getD w i 0)) 5 1) 1) failHead ordinaryHead
-    ++ (decimal (bits (payload (getD w i 0)) 0 5) ++ 32 ∷ (amountFields w (i + 1) 6 ++ 10 ∷ []))
+    ++ numberField (bits (payload (getD w i 0)) 0 5) ++ amountFields w (i + 1) 6 ++ 10 ∷ []
 
 -- the first n lines
 unfoldable pub linesText : List ℕ → ℕ → List ℕ
 linesText w zero = []
 linesText w (suc n) = linesText w n ++ lineText w (3 + 19 * n)
 
--- a report: line count, lines, the three totals
+-- the line count
+unfoldable pub countText : ℕ → List ℕ
+countText n = marginHead ++ numberField n ++ 10 ∷ []
+
+-- the three totals, from word i on
+unfoldable pub totalsText : List ℕ → ℕ → List ℕ
+totalsText w i = totalHead ++ amountFields w i 3 ++ 10 ∷ []
+
 unfoldable pub reportText : List ℕ → List ℕ
-reportText w =
-    marginHead ++ (decimal (countIn w) ++ 10 ∷ (linesText w (countIn w)
-    ++ (totalHead ++ (amountFields w (4 + 19 * countIn w) 3 ++ 10 ∷ []))))
+reportText w = countText (countIn w) ++ linesText w (countIn w) ++ totalsText w (4 + 19 * countIn w)
 
 -- a refusal: its number and place
-abbrev pub refusalText : ℕ → ℕ → List ℕ
-refusalText number place = refusedHead ++ (decimal number ++ 32 ∷ (decimal place ++ 10 ∷ []))
+unfoldable pub refusalText : ℕ → ℕ → List ℕ
+refusalText number place = refusedHead ++ numberField number ++ numberField place ++ 10 ∷ []
 
 abbrev pub printed : Answer → List ℕ → List ℕ
 printed (Report n) w = reportText w

@@ -14,7 +14,7 @@ use Rattle.model.specs.Ascii.{ascii}
 use Rattle.model.specs.Figures.{share, shareHeld, large, largeHeld}
 use Rattle.model.specs.Computing.{everything}
 
-pub heads-agree : ascii "MARGIN O F TOTAL REFUSED " ≡ marginHead ++ (ordinaryHead ++ (failHead ++ (totalHead ++ refusedHead)))
+pub heads-agree : ascii "MARGINOFTOTALREFUSED" ≡ marginHead ++ (ordinaryHead ++ (failHead ++ (totalHead ++ refusedHead)))
 unfolding ascii
 heads-agree = refl
 

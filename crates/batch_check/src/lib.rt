@@ -1,0 +1,43 @@
+// The checks of a batch: rows 20 to 26, each over all records before the next.
+ghost use mathlib.Core.Path.{_≡_};
+ghost use Rattle.model.specs.BatchChecks.{row20, row21, batchCheck};
+use batch::batch_header;
+use batch::record_count;
+use model::BatchHeaderFault;
+use model::BatchLengthFault;
+use model::BatchWordsFault;
+use model::Check;
+use model::Verdict;
+use numbers::Found;
+use words::kind;
+
+// Row 20: no words, wrong kind, P too large.
+fn bad_header(batch: &[u32]) -> bool
+    ensures { λ r. ⌜ r ≡ row20 (now (batch .entry)) ⌝ }
+{
+    (batch.len() == 0) | (kind(batch_header(batch)) != 1) | (256 < record_count(batch))
+}
+
+// Row 21: length isn't 1 + 6P.
+fn bad_length(batch: &[u32]) -> bool
+    ensures { λ r. ⌜ r ≡ row21 (now (batch .entry)) ⌝ }
+{
+    batch.len() != 1 + 6 * record_count(batch)
+}
+
+// The first check that refuses the batch, for any words of it and of the day file.
+pub fn check_batch(day: &[u32], batch: &[u32]) -> Verdict
+    ensures { λ r. ⌜ r ≡ batchCheck (now (day .entry)) (now (batch .entry)) ⌝ }
+{
+    if bad_header(batch) {
+        return Verdict::Failed(Check::BatchHeader(BatchHeaderFault::BadBatchHeader, 0));
+    }
+    if bad_length(batch) {
+        return Verdict::Failed(Check::BatchLength(BatchLengthFault::BadBatchLength, 0));
+    }
+    let count = record_count(batch);
+    if let Found::At(r) = batch_words::first_bad_record(batch, count) {
+        return Verdict::Failed(Check::BatchWords(BatchWordsFault::BadBatchWord, r));
+    }
+    batch_positions::check_positions(day, batch)
+}

@@ -1,0 +1,135 @@
+// Rows 15 to 17: the class, the order and the type of the series.
+ghost use mathlib.Core.Path.{_≡_};
+ghost use Prim.Native.Nat.{_+_, _*_, _≤_, _<_};
+ghost use lib.ListN.{length, getD};
+ghost use Rattle.numbers.specs.Scan.{firstBad};
+ghost use Rattle.model.specs.DayFile.{classCount, seriesCount};
+ghost use Rattle.model.specs.DayChecks.{row15, row16, row17};
+ghost use Rattle.day_series.specs.Stage.{seriesCheck};
+ghost use Rattle.day_series.specs.Presence.{presence};
+use day_file::class_count;
+use day_file::class_number;
+use day_file::expiry;
+use day_file::is_security;
+use day_file::serial;
+use day_file::series_class_number;
+use day_file::series_count;
+use day_file::series_key;
+use day_file::series_type;
+use day_file::strike;
+use model::Check;
+use model::SeriesFault;
+use model::Verdict;
+use numbers::Found;
+
+// Which class numbers there are.
+fn present_numbers(day: &[u32]) -> [bool; 64]
+    requires { ⌜ 1 + 20 * classCount (now day) ≤ length (now day) ⌝ }
+    ensures { λ r. ⌜ r ≡ presence (now (day .entry)) (classCount (now (day .entry))) ⌝ }
+{
+    let count = class_count(day);
+    let mut present = [false; 64];
+    let mut c = 0;
+    while c < count {
+        let n = class_number(day, c);
+        present[n] = true;
+        c += 1;
+    }
+    present
+}
+
+// Row 15 of series s: its class number is absent.
+fn class_absent(day: &[u32], present: &[bool; 64], s: usize) -> bool
+    requires { ⌜ 15 + 20 * classCount (now day) + 14 * s ≤ length (now day) ⌝ }
+    requires { ⌜ now present ≡ presence (now day) (classCount (now day)) ⌝ }
+    ensures { λ r. ⌜ r ≡ row15 (now (day .entry)) s ⌝ }
+{
+    let n = series_class_number(day, s);
+    !present[n]
+}
+
+fn first_class_absent(day: &[u32], count: usize) -> Found
+    requires { ⌜ 1 + 20 * classCount (now day) + 14 * count ≤ length (now day) ⌝ }
+    ensures { λ r. ⌜ r ≡ firstBad (row15 (now (day .entry))) count ⌝ }
+{
+    let present = present_numbers(day);
+    let mut s = 0;
+    while s < count {
+        if class_absent(day, &present, s) {
+            return Found::At(s);
+        }
+        s += 1;
+    }
+    Found::Nothing
+}
+
+// Row 16 of series s: its key payload, then strike, is not above the one before.
+fn out_of_order(day: &[u32], s: usize) -> bool
+    requires { ⌜ 15 + 20 * classCount (now day) + 14 * s ≤ length (now day) ⌝ }
+    ensures { λ r. ⌜ r ≡ row16 (now (day .entry)) s ⌝ }
+{
+    if s == 0 {
+        return false;
+    }
+    let before = series_key(day, s - 1);
+    let key = series_key(day, s);
+    !((before < key) | ((before == key) & (strike(day, s - 1) < strike(day, s))))
+}
+
+fn first_out_of_order(day: &[u32], count: usize) -> Found
+    requires { ⌜ 1 + 20 * classCount (now day) + 14 * count ≤ length (now day) ⌝ }
+    ensures { λ r. ⌜ r ≡ firstBad (row16 (now (day .entry))) count ⌝ }
+{
+    let mut s = 0;
+    while s < count {
+        if out_of_order(day, s) {
+            return Found::At(s);
+        }
+        s += 1;
+    }
+    Found::Nothing
+}
+
+// Row 17 of series s: type not 1–6; serial not 0 on types 1–3; strike not 0 on a future; strike or expiry not 0 on a security.
+fn bad_type(day: &[u32], s: usize) -> bool
+    requires { ⌜ 15 + 20 * classCount (now day) + 14 * s ≤ length (now day) ⌝ }
+    ensures { λ r. ⌜ r ≡ row17 (now (day .entry)) s ⌝ }
+{
+    let t = series_type(day, s);
+    let k = strike(day, s);
+    !((1 <= t) & (t <= 6))
+        | ((t <= 3) & (0 < serial(day, s)))
+        | ((t == 1) & (0 < k))
+        | (is_security(t) & ((0 < k) | (0 < expiry(day, s))))
+}
+
+fn first_bad_type(day: &[u32], count: usize) -> Found
+    requires { ⌜ 1 + 20 * classCount (now day) + 14 * count ≤ length (now day) ⌝ }
+    ensures { λ r. ⌜ r ≡ firstBad (row17 (now (day .entry))) count ⌝ }
+{
+    let mut s = 0;
+    while s < count {
+        if bad_type(day, s) {
+            return Found::At(s);
+        }
+        s += 1;
+    }
+    Found::Nothing
+}
+
+pub fn check_series(day: &[u32]) -> Verdict
+    requires { ⌜ length (now day) ≡ 1 + 20 * classCount (now day) + 14 * seriesCount (now day) ⌝ }
+    ensures { λ r. ⌜ r ≡ seriesCheck (now (day .entry)) ⌝ }
+{
+    let count = series_count(day);
+    if let Found::At(s) = first_class_absent(day, count) {
+        return Verdict::Failed(Check::Series(SeriesFault::ClassAbsent, s));
+    }
+    if let Found::At(s) = first_out_of_order(day, count) {
+        return Verdict::Failed(Check::Series(SeriesFault::SeriesOrder, s));
+    }
+    if let Found::At(s) = first_bad_type(day, count) {
+        return Verdict::Failed(Check::Series(SeriesFault::BadType, s));
+    }
+    Verdict::Passed
+}

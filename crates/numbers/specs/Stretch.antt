@@ -1,0 +1,22 @@
+-- A test that fails at every index from m up to n: a sum or a scan up to m is one up to n.
+use mathlib.Core.Path.{_≡_, refl, sym, _∙_}
+use mathlib.Core.Bool.{Bool, false}
+use Prim.Native.Nat.{ℕ, suc, _+_, _≤_, _<_}
+use native.Mathlib.Decide.{le-ind}
+use native.Mathlib.Numerals.{add-one}
+use native.Mathlib.Omega.{arith}
+use lib.IntN.{ℤ}
+use Rattle.numbers.specs.declared.Found.the-variants.{Nothing}
+use Rattle.numbers.specs.Scan.{firstBad, first-more}
+use Rattle.numbers.specs.Sums.{sumWhere, sumWhere-no}
+
+module _ (t : ℕ → Bool) (m : ℕ) where
+  pub sumWhere-same : (f : ℕ → ℤ) (n : ℕ) → m ≤ n → ((i : ℕ) → m ≤ i → i < n → t i ≡ false) → sumWhere m t f ≡ sumWhere n t f
+  sumWhere-same f n h =
+      le-ind (λ (k : ℕ). ((i : ℕ) → m ≤ i → i < k → t i ≡ false) → sumWhere m t f ≡ sumWhere k t f) (λ e. refl)
+      (λ k p w e. w (λ i a b. e i a (omega arith)) ∙ sym (rw add-one at (sumWhere-no k t f (e k p (omega arith))))) n h
+
+  pub first-same : (n : ℕ) → m ≤ n → firstBad t m ≡ Nothing → ((i : ℕ) → m ≤ i → i < n → t i ≡ false) → firstBad t n ≡ Nothing
+  first-same n h z =
+      le-ind (λ (k : ℕ). ((i : ℕ) → m ≤ i → i < k → t i ≡ false) → firstBad t k ≡ Nothing) (λ e. z)
+      (λ k p w e. rw add-one at (first-more t k (w (λ i a b. e i a (omega arith))) (e k p (omega arith)))) n h

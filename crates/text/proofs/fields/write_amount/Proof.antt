@@ -1,0 +1,47 @@
+use borrow.Author.Needs.{needs}
+use native.Mathlib.Omega.{arith}
+use mathlib.Core.Path.{_≡_, refl, sym, ap, _∙_}
+use mathlib.Core.List.{List, [], _∷_, _++_}
+use Prim.Native.Nat.{ℕ, _+_, _*_, _-_, _≤_, _<_}
+use lib.IntN.{natAbs}
+use lib.ListN.{length, getD}
+use denote.Ref.{now}
+use Rattle.numbers.specs.Abs.{told}
+use Rattle.numbers.specs.Put.{put, put-none, put-then}
+use Rattle.model.specs.Words.{amount}
+use Rattle.model.specs.Reading.{amountIn}
+use Rattle.model.specs.Printed.{decimal, signedDecimal, amountFields}
+use Rattle.text.specs.Digits.{decimal-length, signed-length}
+use Rattle.text.specs.Texts.{amount-small, fields-none, fields-more, fields-length}
+use Rattle.text.proofs.fields.write_amount.Statement.{statement}
+use Rattle.text.proofs.fields.write_amount.Tie as tie
+
+amount-at-requires : tie.Need-amount-at-requires
+amount-at-requires c κs = search needs
+
+write-byte-requires : tie.Need-write-byte-requires
+write-byte-requires c κs = search needs
+
+write-signed-requires : tie.Need-write-signed-requires
+write-signed-requires c κs =
+    let s = c .before .before .before .before .before .before .before .before in
+    let w = c .before .before .before .write-byte in
+    let a = c .before .before .before .before .before .amount-at in
+    (omega (arith, w .ensures .0, w .kept .0, s .pre .0), rw (told (a .ok) (a .ensures)) (amount-small (getD (now (s .args .report)) (s .args .i) 0) (getD (now (s .args .report)) (s .args .i + 1) 0) (getD (now (s .args .report)) (s .args .i + 2) 0)))
+
+same-length : tie.Need-same-length
+same-length c = search needs
+
+returns : tie.Need-returns
+returns c =
+    let s = c .before .before .before .before .before .before .before .before .before .before .before in
+    let a = c .before .before .before .before .before .before .before .before .amount-at in
+    let z = amountIn (now (s .args .report)) (s .args .i) in
+    let v = rw (told (a .ok) (a .ensures)) at (c .before .before .write-signed .ensures) in
+    put-then (s .args .at) (32 ∷ []) (signedDecimal z) (now (s .args .out)) (c .before .before .before .before .before .before .write-byte .ensures) v
+    (omega (arith, c .before .before .before .before .before .before .write-byte .ensures .0, signed-length z, s .pre .0))
+
+pub write-amount-spec : {M : Type 1} → statement M
+write-amount-spec =
+    tie.close
+    (tie.spec amount-at-requires write-byte-requires write-signed-requires same-length returns)

@@ -1,0 +1,36 @@
+use borrow.Author.Needs.{needs}
+use native.Mathlib.Omega.{arith}
+use mathlib.Core.Path.{_≡_, refl, sym, ap, _∙_}
+use mathlib.Core.List.{List, [], _∷_, _++_}
+use Prim.Native.Nat.{ℕ, _+_, _*_, _-_, _≤_, _<_}
+use lib.IntN.{natAbs}
+use lib.ListN.{length, getD}
+use denote.Ref.{now}
+use Rattle.numbers.specs.Abs.{told}
+use Rattle.numbers.specs.Put.{put, put-none, put-then}
+use Rattle.model.specs.Words.{amount}
+use Rattle.model.specs.Reading.{amountIn}
+use Rattle.model.specs.Printed.{decimal, signedDecimal, amountFields}
+use Rattle.text.specs.Digits.{decimal-length, signed-length}
+use Rattle.text.specs.Texts.{amount-small, fields-none, fields-more, fields-length}
+use Rattle.text.proofs.fields.write_number.Statement.{statement}
+use Rattle.text.proofs.fields.write_number.Tie as tie
+
+write-byte-requires : tie.Need-write-byte-requires
+write-byte-requires c κs = search needs
+
+write-decimal-requires : tie.Need-write-decimal-requires
+write-decimal-requires c κs = search needs
+
+same-length : tie.Need-same-length
+same-length c = search needs
+
+returns : tie.Need-returns
+returns c =
+    let s = c .before .before .before .before .before .before .before .before .before in
+    put-then (s .args .at) (32 ∷ []) (decimal (s .args .n)) (now (s .args .out)) (c .before .before .before .before .before .before .write-byte .ensures) (c .before .before .write-decimal .ensures)
+    (omega (arith, c .before .before .before .before .before .before .write-byte .ensures .0, decimal-length (s .args .n), s .pre))
+
+pub write-number-spec : {M : Type 1} → statement M
+write-number-spec =
+    tie.close (tie.spec write-byte-requires write-decimal-requires same-length returns)

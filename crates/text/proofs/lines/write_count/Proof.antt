@@ -1,0 +1,55 @@
+use borrow.Author.Needs.{needs}
+use native.Mathlib.Omega.{arith}
+use mathlib.Core.Path.{_≡_, refl, sym, ap, _∙_}
+use mathlib.Core.List.{List, [], _∷_, _++_}
+use Prim.Native.Nat.{ℕ, _+_, _*_, _≤_, _<_}
+use lib.ListN.{length, getD, length-append}
+use denote.Ref.{now}
+use Rattle.numbers.specs.Put.{put, put-then}
+use Rattle.model.specs.Reading.{countIn}
+use Rattle.model.specs.Words.{payload}
+use Rattle.model.specs.Printed.{decimal, numberField, amountFields, marginHead, totalHead, refusedHead, linesText, countText, totalsText, reportText, refusalText}
+use Rattle.text.specs.Digits.{decimal-length}
+use Rattle.text.specs.Texts.{fields-length, lines-length, count-length, totals-length}
+use Rattle.text.proofs.lines.write_count.Statement.{statement}
+use Rattle.text.proofs.lines.write_count.Tie as tie
+
+slice-aggregate-write-head : tie.Need-slice-aggregate-write-head
+slice-aggregate-write-head c = search needs
+
+write-head-requires : tie.Need-write-head-requires
+write-head-requires c κs = search needs
+
+write-number-requires : tie.Need-write-number-requires
+write-number-requires c κs = search needs
+
+write-byte-requires : tie.Need-write-byte-requires
+write-byte-requires c κs =
+    let n = c .before .before .before .write-number in
+    let h = c .before .before .before .before .before .before .before .write-head in
+    omega (arith, n .ensures .0, n .kept .0, h .ensures .0, h .kept .0, decimal-length (c .before .before .before .before .before .before .before .before .before .before .before .args .n), c .before .before .before .before .before .before .before .before .before .before .before .pre)
+
+same-length : tie.Need-same-length
+same-length c = search needs
+
+returns : tie.Need-returns
+unfolding countText
+returns c =
+    let s = c .before .before .before .before .before .before .before .before .before .before .before .before .before .before in
+    let k = s .args .n in
+    let o = now (s .args .out) in
+    let h₁ = decimal-length k in
+    let h₂ = length-append marginHead (numberField k) in
+    let b = put-then (s .args .at) marginHead (numberField k) o (c .before .before .before .before .before .before .before .before .before .before .write-head .ensures) (c .before .before .before .before .before .before .write-number .ensures) (omega (arith, c .before .before .before .before .before .before .before .before .before .before .write-head .ensures .0, s .pre)) in
+    put-then (s .args .at) (marginHead ++ numberField k) (10 ∷ []) o b (c .before .before .write-byte .ensures) (omega (arith, b .0, s .pre))
+
+pub write-count-spec : {M : Type 1} → statement M
+write-count-spec =
+    tie.close
+    (tie.spec
+    slice-aggregate-write-head
+    write-head-requires
+    write-number-requires
+    write-byte-requires
+    same-length
+    returns)

@@ -1,0 +1,90 @@
+use borrow.Author.Needs.{needs}
+use native.Mathlib.Omega.{arith}
+use borrow.Author.Tests.{eq-eqb, ne-eqb}
+use mathlib.Core.Path.{_≡_, refl, sym, ap, _∙_}
+use mathlib.Core.List.{List, [], _∷_, _++_}
+use Prim.Native.Nat.{ℕ, _+_, _*_, _-_, _/_, _%_, _^_, _≤_, _<_}
+use lib.ListN.{length, getD, length-append}
+use denote.Ref.{now}
+use Rattle.numbers.specs.Put.{put, put-none, put-length, put-then}
+use Rattle.model.specs.Words.{payload, bits}
+use Rattle.model.specs.Printed.{decimal, numberField, amountFields, lineText, linesText}
+use Rattle.text.specs.Digits.{decimal-length}
+use Rattle.text.specs.Texts.{headOf, head-length, fields-length, lineParts, line-length, lines-none, lines-more, lines-length}
+use Rattle.text.proofs.lines.write_line.Statement.{statement}
+use Rattle.text.proofs.lines.write_line.Tie as tie
+
+word-at-requires : tie.Need-word-at-requires
+word-at-requires c κs = search needs
+
+payload-requires : tie.Need-payload-requires
+payload-requires c κs = search needs
+
+write-book-requires : tie.Need-write-book-requires
+write-book-requires c κs = search needs
+
+wide-requires : tie.Need-wide-requires
+wide-requires c κs = search needs
+
+write-number-requires : tie.Need-write-number-requires
+write-number-requires c κs =
+    let b = c .before .before .before .before .write-book in
+    omega (arith, b .ensures .0, b .kept .0, head-length (c .before .before .before .before .before .before .payload .result), c .before .before .before .before .before .before .before .before .before .before .pre .0)
+
+add-write-amounts : tie.Need-add-write-amounts
+add-write-amounts c = search needs
+
+write-amounts-requires : tie.Need-write-amounts-requires
+write-amounts-requires c κs =
+    let n = c .before .before .before .write-number in
+    let b = c .before .before .before .before .before .before .before .before .write-book in (
+      omega (arith, n .ensures .0, n .kept .0, b .ensures .0, b .kept .0, head-length (c .before .before .before .before .before .before .before .before .before .before .payload .result), decimal-length (c .before .before .before .before .wide .result), c .before .before .before .before .before .before .before .before .before .before .before .before .before .before .pre .0),
+      omega (arith, c .before .before .before .before .before .before .before .before .before .before .before .before .before .before .pre .1),
+      omega arith,
+    )
+
+write-byte-requires : tie.Need-write-byte-requires
+write-byte-requires c κs =
+    let a = c .before .before .before .write-amounts in
+    let n = c .before .before .before .before .before .before .before .write-number in
+    let b = c .before .before .before .before .before .before .before .before .before .before .before .before .write-book in
+    let s = c .before .before .before .before .before .before .before .before .before .before .before .before .before .before .before .before .before .before in
+    omega (arith, a .ensures .0, a .kept .0, n .ensures .0, n .kept .0, b .ensures .0, b .kept .0, head-length (c .before .before .before .before .before .before .before .before .before .before .before .before .before .before .payload .result), decimal-length (c .before .before .before .before .before .before .before .before .wide .result), fields-length (now (s .args .report)) (s .args .i + 1) 6, s .pre .0)
+
+same-length : tie.Need-same-length
+same-length c = search needs
+
+returns : tie.Need-returns
+returns c =
+    let s = c .before .before .before .before .before .before .before .before .before .before .before .before .before .before .before .before .before .before .before .before .before in
+    let w = now (s .args .report) in
+    let p = c .before .before .before .before .before .before .before .before .before .before .before .before .before .before .before .before .before .payload .result in
+    let k = c .before .before .before .before .before .before .before .before .before .before .before .wide .result in
+    let q : p ≡ payload (getD w (s .args .i) 0) = c .before .before .before .before .before .before .before .before .before .before .before .before .before .before .before .before .before .payload .ensures ∙ ap payload (c .before .before .before .before .before .before .before .before .before .before .before .before .before .before .before .before .before .before .word-at .ensures) in
+    let m : k ≡ bits p 0 5 = omega (arith, c .before .before .before .before .before .before .before .before .before .before .before .wide .ensures) in
+    let o = now (s .args .out) in
+    let f = amountFields w (s .args .i + 1) 6 in
+    let h₁ = head-length p in
+    let h₂ = decimal-length k in
+    let h₃ = fields-length w (s .args .i + 1) 6 in
+    let h₄ = length-append (headOf p) (numberField k) in
+    let h₅ = length-append (headOf p ++ numberField k) f in
+    let b = put-then (s .args .at) (headOf p) (numberField k) o (c .before .before .before .before .before .before .before .before .before .before .before .before .before .before .before .write-book .ensures) (c .before .before .before .before .before .before .before .before .before .before .write-number .ensures)
+    (omega (arith, c .before .before .before .before .before .before .before .before .before .before .before .before .before .before .before .write-book .ensures .0, s .pre .0)) in
+    let a = put-then (s .args .at) (headOf p ++ numberField k) f o b (c .before .before .before .before .before .before .write-amounts .ensures) (omega (arith, b .0, s .pre .0)) in
+    rw (lineParts w (s .args .i), ← q, ← m) (put-then (s .args .at) (headOf p ++ numberField k ++ f) (10 ∷ []) o a (c .before .before .write-byte .ensures) (omega (arith, a .0, s .pre .0)))
+
+pub write-line-spec : {M : Type 1} → statement M
+write-line-spec =
+    tie.close
+    (tie.spec
+    word-at-requires
+    payload-requires
+    write-book-requires
+    wide-requires
+    write-number-requires
+    add-write-amounts
+    write-amounts-requires
+    write-byte-requires
+    same-length
+    returns)

@@ -1,0 +1,89 @@
+use borrow.Author.Needs.{needs}
+use native.Mathlib.Omega.{arith}
+use borrow.Author.Tests.{eq-eqb, ne-eqb}
+use mathlib.Core.Path.{_≡_, refl, sym, ap, _∙_}
+use mathlib.Core.List.{List, [], _∷_, _++_}
+use Prim.Native.Nat.{ℕ, _+_, _*_, _-_, _/_, _%_, _^_, _≤_, _<_}
+use lib.ListN.{length, getD, length-append}
+use denote.Ref.{now}
+use Rattle.numbers.specs.Put.{put, put-none, put-length, put-then}
+use Rattle.model.specs.Words.{payload, bits}
+use Rattle.model.specs.Printed.{decimal, numberField, amountFields, lineText, linesText}
+use Rattle.text.specs.Digits.{decimal-length}
+use Rattle.text.specs.Texts.{headOf, head-length, fields-length, lineParts, line-length, lines-none, lines-more, lines-length}
+use Rattle.text.proofs.lines.write_lines.Statement.{statement}
+use Rattle.text.proofs.lines.write_lines.Tie as tie
+
+abbrev Inv-loop : tie.InvT-loop
+Inv-loop out₀ at report n end₀ k₀ out end k =
+    (k ≤ n) × ((end ≡ at + length (linesText report k)) × (out ≡ put at (linesText report k) out₀))
+
+abbrev μ-loop : tie.MeasureT-loop
+μ-loop out₀ at report n end₀ k₀ out end k = n - k
+
+long : (c : tie.At-loop Inv-loop μ-loop) → length (c .loop .out) ≡ length (now (c .before .before .before .args .out))
+long c =
+    let s = c .before .before .before in
+    ap length (c .loop .inv .1 .1)
+    ∙ put-length (s .args .at) (linesText (now (s .args .report)) (c .loop .k)) (now (s .args .out))
+    (omega (arith, lines-length (now (s .args .report)) (c .loop .k), s .pre .0))
+
+loop-holds : tie.Need-loop-holds Inv-loop μ-loop
+loop-holds c =
+    let s = c .before .before .args in
+    rw (lines-none (now (s .report))) (omega arith, (omega arith, sym (put-none (s .at) (now (s .out)))))
+
+mul-write-line : tie.Need-mul-write-line Inv-loop μ-loop
+mul-write-line c = search needs
+
+add-write-line : tie.Need-add-write-line Inv-loop μ-loop
+add-write-line c = search needs
+
+write-line-requires : tie.Need-write-line-requires Inv-loop μ-loop
+write-line-requires c κs =
+    let l = c .before .before in
+    let s = l .before .before .before in
+    (omega (arith, long l, l .loop .inv .1 .0, lines-length (now (s .args .report)) (l .loop .k), s .pre .0), omega (arith, s .pre .1))
+
+add-k : tie.Need-add-k Inv-loop μ-loop
+add-k c = search needs
+
+loop-less : tie.Need-loop-less Inv-loop μ-loop
+loop-less c = search needs
+
+loop-again : tie.Need-loop-again Inv-loop μ-loop
+loop-again c =
+    let l = c .before .before .before .before .before in
+    let s = l .before .before .before in
+    let w = now (s .args .report) in
+    let k = l .loop .k in
+    rw (lines-more w k) (
+      omega arith,
+      put-then (s .args .at) (linesText w k) (lineText w (3 + 19 * k)) (now (s .args .out)) (l .loop .inv .1) (c .before .before .write-line .ensures)
+          (omega (arith, l .loop .inv .1 .0, lines-length w k, line-length w (3 + 19 * k), s .pre .0)),
+    )
+
+same-length : tie.Need-same-length Inv-loop μ-loop
+same-length c = long (c .before)
+
+returns : tie.Need-returns Inv-loop μ-loop
+returns c =
+    let l = c .before in
+    let e : l .loop .k ≡ l .before .before .before .args .n = omega arith in
+    rw (← e) (l .loop .inv .1)
+
+pub write-lines-spec : {M : Type 1} → statement M
+write-lines-spec =
+    tie.close
+    (tie.spec
+    Inv-loop
+    μ-loop
+    loop-holds
+    mul-write-line
+    add-write-line
+    write-line-requires
+    add-k
+    loop-less
+    loop-again
+    same-length
+    returns)

@@ -1,0 +1,68 @@
+use borrow.Author.Needs.{needs}
+use native.Mathlib.Omega.{arith}
+use mathlib.Core.Path.{_≡_, refl, sym, ap, _∙_}
+use mathlib.Core.List.{List, [], _∷_, _++_}
+use Prim.Native.Nat.{ℕ, _+_, _*_, _≤_, _<_}
+use lib.ListN.{length, getD, length-append}
+use denote.Ref.{now}
+use Rattle.numbers.specs.Put.{put, put-then}
+use Rattle.model.specs.Reading.{countIn}
+use Rattle.model.specs.Words.{payload}
+use Rattle.model.specs.Printed.{decimal, numberField, amountFields, marginHead, totalHead, refusedHead, linesText, countText, totalsText, reportText, refusalText}
+use Rattle.text.specs.Digits.{decimal-length}
+use Rattle.text.specs.Texts.{fields-length, lines-length, count-length, totals-length}
+use Rattle.text.proofs.lines.write_refusal.Statement.{statement}
+use Rattle.text.proofs.lines.write_refusal.Tie as tie
+
+slice-aggregate-write-head : tie.Need-slice-aggregate-write-head
+slice-aggregate-write-head c = search needs
+
+write-head-requires : tie.Need-write-head-requires
+write-head-requires c κs = search needs
+
+write-number-requires : tie.Need-write-number-requires
+write-number-requires c κs = search needs
+
+write-number-requires-2 : tie.Need-write-number-requires-2
+write-number-requires-2 c κs =
+    let n = c .before .before .before .write-number in
+    let h = c .before .before .before .before .before .before .before .write-head in
+    omega (arith, n .ensures .0, n .kept .0, h .ensures .0, h .kept .0, decimal-length (c .before .before .before .before .before .before .before .before .before .before .before .args .number), c .before .before .before .before .before .before .before .before .before .before .before .pre)
+
+write-byte-requires : tie.Need-write-byte-requires
+write-byte-requires c κs =
+    let p = c .before .before .before .write-number2 in
+    let n = c .before .before .before .before .before .before .before .write-number in
+    let h = c .before .before .before .before .before .before .before .before .before .before .before .write-head in
+    let s = c .before .before .before .before .before .before .before .before .before .before .before .before .before .before .before in
+    omega (arith, p .ensures .0, p .kept .0, n .ensures .0, n .kept .0, h .ensures .0, h .kept .0, decimal-length (s .args .number), decimal-length (s .args .place), s .pre)
+
+same-length : tie.Need-same-length
+same-length c = search needs
+
+returns : tie.Need-returns
+unfolding refusalText
+returns c =
+    let s = c .before .before .before .before .before .before .before .before .before .before .before .before .before .before .before .before .before .before in
+    let n = numberField (s .args .number) in
+    let p = numberField (s .args .place) in
+    let o = now (s .args .out) in
+    let h₁ = decimal-length (s .args .number) in
+    let h₂ = decimal-length (s .args .place) in
+    let h₃ = length-append refusedHead n in
+    let h₄ = length-append (refusedHead ++ n) p in
+    let a = put-then 0 refusedHead n o (c .before .before .before .before .before .before .before .before .before .before .before .before .before .before .write-head .ensures) (c .before .before .before .before .before .before .before .before .before .before .write-number .ensures) (omega (arith, c .before .before .before .before .before .before .before .before .before .before .before .before .before .before .write-head .ensures .0, s .pre)) in
+    let b = put-then 0 (refusedHead ++ n) p o a (c .before .before .before .before .before .before .write-number2 .ensures) (omega (arith, a .0, s .pre)) in
+    put-then 0 (refusedHead ++ n ++ p) (10 ∷ []) o b (c .before .before .write-byte .ensures) (omega (arith, b .0, s .pre))
+
+pub write-refusal-spec : {M : Type 1} → statement M
+write-refusal-spec =
+    tie.close
+    (tie.spec
+    slice-aggregate-write-head
+    write-head-requires
+    write-number-requires
+    write-number-requires-2
+    write-byte-requires
+    same-length
+    returns)

@@ -1,0 +1,94 @@
+use borrow.Author.Needs.{needs}
+use native.Mathlib.Omega.{arith}
+use mathlib.Core.Path.{_≡_, refl, sym, ap, _∙_}
+use mathlib.Core.List.{List, [], _∷_, _++_}
+use Prim.Native.Nat.{ℕ, _+_, _*_, _≤_, _<_}
+use lib.ListN.{length, getD, length-append}
+use denote.Ref.{now}
+use Rattle.numbers.specs.Put.{put, put-then}
+use Rattle.model.specs.Reading.{countIn}
+use Rattle.model.specs.Words.{payload}
+use Rattle.model.specs.Printed.{decimal, numberField, amountFields, marginHead, totalHead, refusedHead, linesText, countText, totalsText, reportText, refusalText}
+use Rattle.text.specs.Digits.{decimal-length}
+use Rattle.text.specs.Texts.{fields-length, lines-length, count-length, totals-length}
+use Rattle.text.proofs.lines.write_report.Statement.{statement}
+use Rattle.text.proofs.lines.write_report.Tie as tie
+
+word-at-requires : tie.Need-word-at-requires
+word-at-requires c κs = search needs
+
+payload-requires : tie.Need-payload-requires
+payload-requires c κs = search needs
+
+index-requires : tie.Need-index-requires
+index-requires c κs = search needs
+
+wide-requires : tie.Need-wide-requires
+wide-requires c κs = search needs
+
+write-count-requires : tie.Need-write-count-requires
+write-count-requires c κs = search needs
+
+counted : (c : tie.After-write-lines-arg) → c .before .before .before .before .before .before .index .result ≡ countIn (now (c .before .before .before .before .before .before .before .before .before .before .before .args .report))
+counted c = c .before .before .before .before .before .before .index .ensures ∙ c .before .before .before .before .before .before .before .payload .ensures ∙ ap payload (c .before .before .before .before .before .before .before .before .word-at .ensures)
+
+few : (c : tie.After-write-lines-arg) → c .before .before .before .before .before .before .index .result ≤ 58
+few c = omega (arith, counted c, c .before .before .before .before .before .before .before .before .before .before .before .pre .1)
+
+write-lines-requires : tie.Need-write-lines-requires
+write-lines-requires c κs =
+    let s = c .before .before .before .before .before .before .before .before .before .before .before in
+    let k = c .before .before .before .write-count in
+    let n : c .before .before .before .before .before .before .index .result ≤ 58 = few c in
+    (omega (arith, k .ensures .0, k .kept .0, count-length (c .before .before .before .before .wide .result), s .pre .0), n)
+
+mul-write-totals : tie.Need-mul-write-totals
+mul-write-totals c = search needs
+
+add-write-totals : tie.Need-add-write-totals
+add-write-totals c = search needs
+
+write-totals-requires : tie.Need-write-totals-requires
+write-totals-requires c κs =
+    let s = c .before .before .before .before .before .before .before .before .before .before .before .before .before .before .before in
+    let l = c .before .before .before .write-lines in
+    let k = c .before .before .before .before .before .before .before .write-count in
+    let n : c .before .before .before .before .before .before .before .before .before .before .index .result ≤ 58 = few (c .before .before .before .before) in
+    (omega (arith, l .ensures .0, l .kept .0, k .ensures .0, k .kept .0, count-length (c .before .before .before .before .before .before .before .before .wide .result), lines-length (now (s .args .report)) (c .before .before .before .before .before .before .before .before .before .before .index .result), s .pre .0), omega arith)
+
+same-length : tie.Need-same-length
+same-length c = search needs
+
+returns : tie.Need-returns
+unfolding reportText
+returns c =
+    let s = c .before .before .before .before .before .before .before .before .before .before .before .before .before .before .before .before .before .before in
+    let w = now (s .args .report) in
+    let o = now (s .args .out) in
+    let n = c .before .before .before .before .before .before .before .before .before .before .before .before .before .index .result in
+    let k = c .before .before .before .before .before .before .before .before .before .before .before .wide .result in
+    let e : k ≡ n = c .before .before .before .before .before .before .before .before .before .before .before .wide .ensures ∙ sym (c .before .before .before .before .before .before .before .before .before .before .before .before .before .index .ensures) in
+    let h₁ = few (c .before .before .before .before .before .before .before) in
+    let h₂ = count-length k in
+    let h₃ = lines-length w n in
+    let h₄ = totals-length w (4 + 19 * n) in
+    let h₅ = length-append (countText k) (linesText w n) in
+    let b = put-then 0 (countText k) (linesText w n) o (c .before .before .before .before .before .before .before .before .before .before .write-count .ensures) (c .before .before .before .before .before .before .write-lines .ensures) (omega (arith, c .before .before .before .before .before .before .before .before .before .before .write-count .ensures .0, s .pre .0)) in
+    let t = put-then 0 (countText k ++ linesText w n) (totalsText w (4 + 19 * n)) o b (c .before .before .write-totals .ensures) (omega (arith, b .0, s .pre .0)) in
+    rw (← counted (c .before .before .before .before .before .before .before)) (rw e at t)
+
+pub write-report-spec : {M : Type 1} → statement M
+write-report-spec =
+    tie.close
+    (tie.spec
+    word-at-requires
+    payload-requires
+    index-requires
+    wide-requires
+    write-count-requires
+    write-lines-requires
+    mul-write-totals
+    add-write-totals
+    write-totals-requires
+    same-length
+    returns)

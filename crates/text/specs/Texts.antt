@@ -1,0 +1,106 @@
+-- The lengths of fields and lines, and one more of them, as loops meet them.
+use mathlib.Core.Path.{_≡_, refl, sym, ap, _∙_}
+use mathlib.Core.Bool.{Bool, true, false, cond}
+use mathlib.Core.List.{List, [], _∷_, _++_}
+use Prim.Native.Nat.{ℕ, zero, suc, _+_, _*_, _/_, _%_, _^_, _≤_, _<_}
+use native.Mathlib.Numerals.{add-one}
+use native.Mathlib.Omega.{arith}
+use lib.Dec.{eqb}
+use lib.IntN.{ℤ, pos, negℤ, natAbs}
+use lib.ListN.{length, getD, length-append}
+use Rattle.numbers.specs.Abs.{cond-ind, natAbs-neg}
+use Rattle.numbers.specs.Put.{put, put-none, put-then}
+use Rattle.model.specs.Words.{payload, bits, amount, magnitude, negative}
+use Rattle.model.specs.Reading.{amountIn, countIn}
+use Rattle.model.specs.Printed.{signedDecimal, numberField, amountFields, marginHead, ordinaryHead, failHead, totalHead, refusedHead, lineText, linesText, countText, totalsText, reportText, refusalText}
+use Rattle.text.specs.Digits.{decimal-length, signed-length}
+
+-- the head of a line whose key has this payload
+abbrev pub headOf : ℕ → List ℕ
+headOf p = cond (eqb (bits p 5 1) 1) failHead ordinaryHead
+
+pub head-length : (p : ℕ) → length (headOf p) ≡ 1
+head-length p = by (eqb (bits p 5 1) 1)
+  where
+    by : (b : Bool) → length (cond b failHead ordinaryHead) ≡ 1
+    by true = refl
+    by false = refl
+
+-- an amount read from three words fits 63 bits
+pub amount-small : (u v w : ℕ) → natAbs (amount u v w) < 2 ^ 63
+amount-small u v w =
+    let m : magnitude u v w < 2 ^ 63 = omega arith in
+    cond-ind (eqb (negative u) 1) (negℤ (pos (magnitude u v w))) (pos (magnitude u v w)) (λ z. natAbs z < 2 ^ 63)
+    (λ t. rw (natAbs-neg (pos (magnitude u v w))) m) (λ t. m)
+
+module _ (w : List ℕ) where
+  pub fields-none : (i : ℕ) → amountFields w i 0 ≡ []
+  unfolding amountFields
+  fields-none i = refl
+
+  pub fields-more : (i n : ℕ) → amountFields w i (n + 1) ≡ amountFields w i n ++ 32 ∷ signedDecimal (amountIn w (i + 3 * n))
+  unfolding amountFields
+  fields-more i n = rw add-one
+
+  pub fields-length : (i n : ℕ) → length (amountFields w i n) ≤ 22 * n
+  unfolding amountFields
+  fields-length i zero = omega arith
+  fields-length i (suc n) =
+      omega (
+        arith,
+        fields-length i n,
+        signed-length (amountIn w (i + 3 * n)),
+        length-append (amountFields w i n) (32 ∷ signedDecimal (amountIn w (i + 3 * n))),
+      )
+
+  -- a line's parts
+  pub lineParts : (i : ℕ) → lineText w i ≡ headOf (payload (getD w i 0)) ++ numberField (bits (payload (getD w i 0)) 0 5) ++ amountFields w (i + 1) 6 ++ 10 ∷ []
+  unfolding lineText
+  lineParts i = refl
+
+  pub line-length : (i : ℕ) → length (lineText w i) ≤ 155
+  unfolding lineText
+  line-length i =
+      let p : ℕ = payload (getD w i 0) in
+      let h : List ℕ = headOf p in
+      let n : List ℕ = numberField (bits p 0 5) in
+      let f : List ℕ = amountFields w (i + 1) 6 in
+      omega (
+        arith,
+        head-length p,
+        decimal-length (bits p 0 5),
+        fields-length (i + 1) 6,
+        length-append (h ++ n ++ f) (10 ∷ []),
+        length-append (h ++ n) f,
+        length-append h n,
+      )
+
+  pub lines-none : linesText w 0 ≡ []
+  unfolding linesText
+  lines-none = refl
+
+  pub lines-more : (n : ℕ) → linesText w (n + 1) ≡ linesText w n ++ lineText w (3 + 19 * n)
+  unfolding linesText
+  lines-more n = rw add-one
+
+  pub lines-length : (n : ℕ) → length (linesText w n) ≤ 155 * n
+  unfolding linesText
+  lines-length zero = omega arith
+  lines-length (suc n) =
+      omega (arith, lines-length n, line-length (3 + 19 * n), length-append (linesText w n) (lineText w (3 + 19 * n)))
+
+  -- the longest text: 58 lines
+  pub totals-length : (i : ℕ) → length (totalsText w i) ≤ 72
+  unfolding totalsText
+  totals-length i =
+      omega (
+        arith,
+        fields-length i 3,
+        length-append (totalHead ++ amountFields w i 3) (10 ∷ []),
+        length-append totalHead (amountFields w i 3),
+      )
+
+pub count-length : (n : ℕ) → length (countText n) ≤ 28
+unfolding countText
+count-length n =
+    omega (arith, decimal-length n, length-append (marginHead ++ numberField n) (10 ∷ []), length-append marginHead (numberField n))

@@ -1,0 +1,115 @@
+// Lines and the whole text. Each function writes from place `at` on and returns the place behind.
+ghost use mathlib.Core.Path.{_≡_};
+ghost use Prim.Native.Nat.{_+_, _*_, _≤_, _<_};
+ghost use lib.ListN.{length};
+ghost use Rattle.numbers.specs.Put.{put};
+ghost use Rattle.model.specs.Reading.{countIn};
+ghost use Rattle.model.specs.Printed.{lineText, linesText, countText, totalsText, reportText, refusalText, printed};
+ghost use Rattle.text.specs.Room.{Room};
+ghost use Rattle.text.specs.Texts.{headOf};
+use crate::fields::write_amounts;
+use crate::fields::write_byte;
+use crate::fields::write_head;
+use crate::fields::write_number;
+use model::Answer;
+use words::index;
+use words::payload;
+use words::wide;
+use words::word_at;
+
+// O, or F where bit 5 of a line's key is set.
+pub fn write_book(out: &mut [u8], at: usize, key: u32) -> usize
+    requires { ⌜ at + 1 ≤ length (now out) ⌝ }
+    ensures { λ r. ⌜ (r ≡ at + length (headOf key)) × (now (out .exit) ≡ put at (headOf key) (now (out .entry))) ⌝ }
+{
+    if key / 32 % 2 == 1 {
+        return write_head(out, at, b"F");
+    }
+    write_head(out, at, b"O")
+}
+
+// The line that begins at word i of the report.
+pub fn write_line(out: &mut [u8], at: usize, report: &[u32], i: usize) -> usize
+    requires { ⌜ (at + 155 ≤ length (now out)) × (i ≤ 10000) ⌝ }
+    ensures { λ r. ⌜ (r ≡ at + length (lineText (now (report .entry)) i)) × (now (out .exit) ≡ put at (lineText (now (report .entry)) i) (now (out .entry))) ⌝ }
+{
+    let key = payload(word_at(report, i));
+    let a = write_book(out, at, key);
+    let b = write_number(out, a, wide(key % 32));
+    let c = write_amounts(out, b, report, i + 1, 6);
+    write_byte(out, c, b'\n')
+}
+
+// The first n lines of the report.
+pub fn write_lines(out: &mut [u8], at: usize, report: &[u32], n: usize) -> usize
+    requires { ⌜ (at + 155 * n ≤ length (now out)) × (n ≤ 58) ⌝ }
+    ensures { λ r. ⌜ (r ≡ at + length (linesText (now (report .entry)) n)) × (now (out .exit) ≡ put at (linesText (now (report .entry)) n) (now (out .entry))) ⌝ }
+{
+    let mut end = at;
+    let mut k: usize = 0;
+    while k < n {
+        end = write_line(out, end, report, 3 + 19 * k);
+        k = k + 1;
+    }
+    end
+}
+
+// The line count.
+pub fn write_count(out: &mut [u8], at: usize, n: u64) -> usize
+    requires { ⌜ at + 28 ≤ length (now out) ⌝ }
+    ensures { λ r. ⌜ (r ≡ at + length (countText n)) × (now (out .exit) ≡ put at (countText n) (now (out .entry))) ⌝ }
+{
+    let a = write_head(out, at, b"MARGIN");
+    let b = write_number(out, a, n);
+    write_byte(out, b, b'\n')
+}
+
+// The three totals, from word i of the report on.
+pub fn write_totals(out: &mut [u8], at: usize, report: &[u32], i: usize) -> usize
+    requires { ⌜ (at + 72 ≤ length (now out)) × (i ≤ 100000) ⌝ }
+    ensures { λ r. ⌜ (r ≡ at + length (totalsText (now (report .entry)) i)) × (now (out .exit) ≡ put at (totalsText (now (report .entry)) i) (now (out .entry))) ⌝ }
+{
+    let a = write_head(out, at, b"TOTAL");
+    let b = write_amounts(out, a, report, i, 3);
+    write_byte(out, b, b'\n')
+}
+
+// The text of a report, from its words.
+pub fn write_report(out: &mut [u8], report: &[u32]) -> usize
+    requires { ⌜ 9090 ≤ length (now out) ⌝ }
+    requires { ⌜ countIn (now report) ≤ 58 ⌝ }
+    ensures { λ r. ⌜ (r ≡ 0 + length (reportText (now (report .entry)))) × (now (out .exit) ≡ put 0 (reportText (now (report .entry))) (now (out .entry))) ⌝ }
+{
+    let count = payload(word_at(report, 0));
+    let n = index(count);
+    let a = write_count(out, 0, wide(count));
+    let b = write_lines(out, a, report, n);
+    write_totals(out, b, report, 4 + 19 * n)
+}
+
+// The text of a refusal.
+pub fn write_refusal(out: &mut [u8], number: u64, place: u64) -> usize
+    requires { ⌜ 9090 ≤ length (now out) ⌝ }
+    ensures { λ r. ⌜ (r ≡ 0 + length (refusalText number place)) × (now (out .exit) ≡ put 0 (refusalText number place) (now (out .entry))) ⌝ }
+{
+    let a = write_head(out, 0, b"REFUSED");
+    let b = write_number(out, a, number);
+    let c = write_number(out, b, place);
+    write_byte(out, c, b'\n')
+}
+
+// What the program prints for an answer and the report's words, at the front of the buffer; its length.
+pub fn write_answer(answer: Answer, report: &[u32], out: &mut [u8]) -> usize
+    requires { ⌜ 9090 ≤ length (now out) ⌝ }
+    requires { ⌜ Room answer (now report) ⌝ }
+    ensures { λ r. ⌜ (r ≡ 0 + length (printed answer (now (report .entry)))) × (now (out .exit) ≡ put 0 (printed answer (now (report .entry))) (now (out .entry))) ⌝ }
+{
+    match answer {
+        Answer::Report(_) => write_report(out, report),
+        Answer::Refused(check) => write_refusal(
+            out,
+            wide(answers::number(check)),
+            answers::place(check) as u64,
+        ),
+    }
+}

@@ -1,0 +1,18 @@
+use borrow.Author.Needs.{needs}
+use mir.Facts.{toZ-ofZ}
+use Rattle.words.proofs.high_word.Statement.{statement}
+use Rattle.words.proofs.high_word.Tie as tie
+
+returns : tie.Need-returns
+returns c = rw (c .word .ensures, c .before .before .sign-bit .ensures .0, c .before .size .ensures .0, toZ-ofZ (c .before .before .before .fits .z))
+
+pub high-word-spec : {M : Type 1} → statement M
+high-word-spec =
+    tie.close
+    (tie.spec
+    (λ c κs. search needs)
+    (λ c κs. search needs)
+    (λ c. search needs)
+    (λ c. search needs)
+    (λ c κs. search needs)
+    returns)
