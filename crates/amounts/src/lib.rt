@@ -1,6 +1,6 @@
 // Signed arithmetic with contracts in plain integers, so that a caller's proof never meets a machine word.
 ghost use mathlib.Core.Path.{_≡_};
-ghost use lib.IntN.{ℤ, pos, negsuc, natAbs, _+ℤ_, _-ℤ_, _*ℤ_};
+ghost use lib.IntN.{pos, natAbs, _+ℤ_, _-ℤ_, _*ℤ_};
 ghost use mir.Syntax.{w64};
 ghost use mir.Val.{SFits};
 ghost use Prim.Native.Nat.{_<_, _^_};

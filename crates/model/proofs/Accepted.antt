@@ -55,7 +55,8 @@ pub record DayRows (d : List ℕ) : Type 0 where
   pub at16 : (s : ℕ) → s < seriesCount d → row16 d s ≡ false
   pub at17 : (s : ℕ) → s < seriesCount d → row17 d s ≡ false
 
-pub record BatchRows (d b : List ℕ) : Type 0 where
+-- the rows of the batch by itself, and with row 30
+pub record BatchChecks (d b : List ℕ) : Type 0 where
   pub at20 : row20 b ≡ false
   pub at21 : row21 b ≡ false
   pub at22 : (r : ℕ) → r < recordCount b → row22 b r ≡ false
@@ -63,39 +64,37 @@ pub record BatchRows (d b : List ℕ) : Type 0 where
   pub at24 : (r : ℕ) → r < recordCount b → row24 d b r ≡ false
   pub at25 : (r : ℕ) → r < recordCount b → row25 d b r ≡ false
   pub at26 : (r : ℕ) → r < recordCount b → row26 d b r ≡ false
+
+pub record BatchRows (d b : List ℕ) : Type 0 where
+  pub checks : BatchChecks d b
   pub at30 : (r : ℕ) → r < recordCount b → row30 d b r ≡ false
 
+pub day-checked : (d : List ℕ) → dayCheck d ≡ Passed → DayRows d
+unfolding dayCheck
+day-checked d e =
+    let a10 = both _ _ e in
+    let a11 = both _ _ (a10 .1) in
+    let a12 = both _ _ (a11 .1) in
+    let a13 = both _ _ (a12 .1) in
+    let a14 = both _ _ (a13 .1) in
+    let a15 = both _ _ (a14 .1) in
+    let a16 = both _ _ (a15 .1) in
+    record {
+      at10 = plain _ _ (a10 .0);
+      at11 = plain _ _ (a11 .0);
+      at12 = clear _ _ _ (a12 .0);
+      at13 = clear _ _ _ (a13 .0);
+      at14 = clear _ _ _ (a14 .0);
+      at15 = clear _ _ _ (a15 .0);
+      at16 = clear _ _ _ (a16 .0);
+      at17 = clear _ _ _ (a16 .1);
+    }
+
 module _ (d b : List ℕ) where
-  pub day-passed : Accepted d b → dayCheck d ≡ Passed
-  unfolding verdict
-  day-passed e = both (dayCheck d) _ e .0
-
-  pub day-rows : Accepted d b → DayRows d
-  unfolding dayCheck
-  day-rows e =
-      let a10 = both _ _ (day-passed e) in
-      let a11 = both _ _ (a10 .1) in
-      let a12 = both _ _ (a11 .1) in
-      let a13 = both _ _ (a12 .1) in
-      let a14 = both _ _ (a13 .1) in
-      let a15 = both _ _ (a14 .1) in
-      let a16 = both _ _ (a15 .1) in
-      record {
-        at10 = plain _ _ (a10 .0);
-        at11 = plain _ _ (a11 .0);
-        at12 = clear _ _ _ (a12 .0);
-        at13 = clear _ _ _ (a13 .0);
-        at14 = clear _ _ _ (a14 .0);
-        at15 = clear _ _ _ (a15 .0);
-        at16 = clear _ _ _ (a16 .0);
-        at17 = clear _ _ _ (a16 .1);
-      }
-
-  pub batch-rows : Accepted d b → BatchRows d b
-  unfolding verdict batchCheck nettingCheck
-  batch-rows e =
-      let rest = both (batchCheck d b) (nettingCheck d b) (both (dayCheck d) _ e .1) in
-      let a20 = both _ _ (rest .0) in
+  pub batch-checked : batchCheck d b ≡ Passed → BatchChecks d b
+  unfolding batchCheck
+  batch-checked e =
+      let a20 = both _ _ e in
       let a21 = both _ _ (a20 .1) in
       let a22 = both _ _ (a21 .1) in
       let a23 = both _ _ (a22 .1) in
@@ -109,17 +108,33 @@ module _ (d b : List ℕ) where
         at24 = clear _ _ _ (a24 .0);
         at25 = clear _ _ _ (a25 .0);
         at26 = clear _ _ _ (a25 .1);
-        at30 = clear _ _ _ (rest .1);
       }
+
+  pub day-passed : Accepted d b → dayCheck d ≡ Passed
+  unfolding verdict
+  day-passed e = both (dayCheck d) _ e .0
+
+  pub day-rows : Accepted d b → DayRows d
+  day-rows e = day-checked d (day-passed e)
+
+  pub batch-rows : Accepted d b → BatchRows d b
+  unfolding verdict nettingCheck
+  batch-rows e =
+      let rest = both (batchCheck d b) (nettingCheck d b) (both (dayCheck d) _ e .1) in
+      record { checks = batch-checked (rest .0); at30 = clear _ _ _ (rest .1) }
+
+  pub all-passed : dayCheck d ≡ Passed → batchCheck d b ≡ Passed → nettingCheck d b ≡ Passed → Accepted d b
+  unfolding verdict
+  all-passed p q r = join _ _ p (join _ _ q r)
 
   pub rows-accepted : dayCheck d ≡ Passed → BatchRows d b → Accepted d b
   unfolding verdict batchCheck nettingCheck
   rows-accepted p r =
       join _ _ p
       (join _ _
-      (join _ _ (plain-back _ _ (r .at20))
-      (join _ _ (plain-back _ _ (r .at21))
-      (join _ _ (clear-back _ _ _ (r .at22))
-      (join _ _ (clear-back _ _ _ (r .at23))
-      (join _ _ (clear-back _ _ _ (r .at24)) (join _ _ (clear-back _ _ _ (r .at25)) (clear-back _ _ _ (r .at26))))))))
+      (join _ _ (plain-back _ _ (r .checks .at20))
+      (join _ _ (plain-back _ _ (r .checks .at21))
+      (join _ _ (clear-back _ _ _ (r .checks .at22))
+      (join _ _ (clear-back _ _ _ (r .checks .at23))
+      (join _ _ (clear-back _ _ _ (r .checks .at24)) (join _ _ (clear-back _ _ _ (r .checks .at25)) (clear-back _ _ _ (r .checks .at26))))))))
       (clear-back _ _ _ (r .at30)))

@@ -71,11 +71,11 @@ module _ (t : ℕ → Bool) (L : ℕ → List ℕ) where
 -- ---- the report
 
 module _ (d : List ℕ) (n v : ℕ → ℤ) where
-  bookBlocks : ℕ → List (List ℕ)
+  unfoldable pub bookBlocks : ℕ → List (List ℕ)
   bookBlocks k = chosen (hasLine d n v k) (lineWords d n v k) 29
 
   -- the line blocks of the report
-  pub lineBlocks : List (List ℕ)
+  unfoldable pub lineBlocks : List (List ℕ)
   lineBlocks = bookBlocks 0 ++ bookBlocks 1
 
   book-joined : (k : ℕ) → joined (bookBlocks k) ≡ bookLines d n v k

@@ -22,3 +22,11 @@ pub mod Records
 pub mod Together
 pub mod Verdicts
 pub mod Sizes
+pub mod Untouched
+pub mod Written
+pub mod Totals
+pub mod TwoGroups
+pub mod RuledOut
+pub mod Corollaries
+pub mod Often
+pub mod Batches

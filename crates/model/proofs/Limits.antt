@@ -5,22 +5,21 @@ use mathlib.Core.Logic.{_≢_}
 use mathlib.Core.List.{List}
 use Prim.Native.Nat.{ℕ, zero, suc, _+_, _*_, _-_, _≤_, _<_}
 use native.Mathlib.Omega.{arith}
-use borrow.Author.Tests.{lt-ltb, le-ltb, ltb-false, leb-false, eqb-false, ne-eqb}
+use borrow.Author.Tests.{lt-ltb, le-ltb, ltb-false, leb-false, eqb-true, eqb-false, ne-eqb}
 use lib.Dec.{leb, ltb, eqb}
 use lib.IntN.{ℤ, pos, negℤ, natAbs}
 use lib.ListN.{length, getD}
 use Rattle.numbers.specs.Scan.{firstBad, hit, first-clear}
 use Rattle.numbers.specs.Lists.{nothing-hit}
-use Rattle.numbers.specs.Abs.{natAbs-neg}
-use Rattle.model.specs.Words.{kind, payload, bits, magnitude, negative}
+use Rattle.model.specs.Words.{kind, payload, bits, badWord, magnitude, negative}
 use Rattle.model.specs.DayFile.{classCount, seriesCount, classWord, seriesWord, group, offset, multiplier}
-use Rattle.model.specs.DayChecks.{badClassWord, badSeriesWord, badClass, badSeries, row12}
-use Rattle.model.specs.Words.{badWord}
-use Rattle.model.specs.Batch.{batchHeader, recordCount, recordWord, key, place, dvpSize, dvpAmount}
-use Rattle.model.specs.BatchChecks.{badRecordWord, badDvp, row20, row22, row23}
+use Rattle.model.specs.DayChecks.{badClassWord, badSeriesWord, badClass, badSeries, row11, row12}
+use Rattle.model.specs.Batch.{batchHeader, recordCount, recordWord, key, place, long, short, dvpSize, dvpAmount}
+use Rattle.model.specs.BatchChecks.{badRecordWord, badDvp, row20, row21, row22, row23}
 use Rattle.model.specs.Netting.{net, row30}
-use Rattle.model.proofs.Tests.{or-left, or-right}
-use Rattle.model.proofs.Accepted.{DayRows, BatchRows}
+use Rattle.model.proofs.Tests.{or-left, or-right, not-off}
+use Rattle.model.proofs.Accepted.{DayRows, BatchChecks, BatchRows}
+use Rattle.model.proofs.Sizes.{size-amount}
 
 -- a word that is not bad is within its limit
 within : (w k l : ℕ) → badWord w k l ≡ false → payload w ≤ l
@@ -73,12 +72,38 @@ module _ (d : List ℕ) (r : DayRows d) where
         let z = eqb-false (multiplier d s) 0 (or-right (hit (firstBad (badSeriesWord d s) 14)) (eqb (multiplier d s) 0) series-good) in
         omega arith
 
-module _ (d b : List ℕ) (r : BatchRows d b) where
+module _ (d b : List ℕ) (r : BatchChecks d b) where
   pub few-records : recordCount b ≤ 256
   unfolding row20
   few-records = ltb-false 256 (recordCount b) (or-right (eqb (length b) 0 || not (eqb (kind (batchHeader b)) 1)) (ltb 256 (recordCount b)) (r .at20))
 
+  pub batch-length : length b ≡ 1 + 6 * recordCount b
+  unfolding row21
+  batch-length = eqb-true (length b) (1 + 6 * recordCount b) (not-off (eqb (length b) (1 + 6 * recordCount b)) (r .at21))
+
   module _ (q : ℕ) (h : q < recordCount b) where
+    abbrev bad : ℕ → ℕ → ℕ → Bool
+    bad i k l = badWord (recordWord b q i) k l
+
+    -- key, long, short
+    quantities : (bad 0 2 1023 || bad 1 4 10000000 || bad 2 4 10000000) ≡ false
+    unfolding row22 badRecordWord
+    quantities =
+        or-left (bad 0 2 1023 || bad 1 4 10000000 || bad 2 4 10000000) (bad 3 5 536870911)
+        (or-left (bad 0 2 1023 || bad 1 4 10000000 || bad 2 4 10000000 || bad 3 5 536870911) (bad 4 6 536870911)
+        (or-left (bad 0 2 1023 || bad 1 4 10000000 || bad 2 4 10000000 || bad 3 5 536870911 || bad 4 6 536870911) (bad 5 6 536870911)
+        (or-left (badRecordWord b q) (badDvp b q) (r .at22 q h))))
+
+    pub long-limit : long b q ≤ 10000000
+    long-limit = within (recordWord b q 1) 4 10000000 (or-right (bad 0 2 1023) (bad 1 4 10000000) (or-left (bad 0 2 1023 || bad 1 4 10000000) (bad 2 4 10000000) quantities))
+
+    pub short-limit : short b q ≤ 10000000
+    short-limit = within (recordWord b q 2) 4 10000000 (or-right (bad 0 2 1023 || bad 1 4 10000000) (bad 2 4 10000000) quantities)
+
+    pub place-limit : place b q < seriesCount d
+    unfolding row23
+    place-limit = leb-false (seriesCount d) (place b q) (r .at23 q h)
+
     dvp-size : dvpSize b q ≤ 5000000000000000
     unfolding row22 badDvp
     dvp-size =
@@ -86,13 +111,15 @@ module _ (d b : List ℕ) (r : BatchRows d b) where
         (or-right (ltb 0 (bits (payload (recordWord b q 3)) 5 23) || (eqb (negative (recordWord b q 3)) 1 && eqb (dvpSize b q) 0)) (ltb 5000000000000000 (dvpSize b q))
         (or-right (badRecordWord b q) (badDvp b q) (r .at22 q h)))
 
-    signed : (t : Bool) (m : ℕ) → natAbs (cond t (negℤ (pos m)) (pos m)) ≡ m
-    signed true m = natAbs-neg (pos m)
-    signed false m = refl
-
     pub dvp-limit : natAbs (dvpAmount b q) ≤ 5000000000000000
-    dvp-limit = rw (signed (eqb (negative (recordWord b q 3)) 1) (dvpSize b q)) dvp-size
+    dvp-limit = rw (size-amount (recordWord b q 3) (recordWord b q 4) (recordWord b q 5)) dvp-size
 
-    pub net-limit : natAbs (net b (key b q)) * multiplier d (place b q) ≤ 10000000
-    unfolding row30
-    net-limit = ltb-false 10000000 (natAbs (net b (key b q)) * multiplier d (place b q)) (r .at30 q h)
+module _ (d b : List ℕ) (r : BatchRows d b) (q : ℕ) (h : q < recordCount b) where
+  pub net-limit : natAbs (net b (key b q)) * multiplier d (place b q) ≤ 10000000
+  unfolding row30
+  net-limit = ltb-false 10000000 (natAbs (net b (key b q)) * multiplier d (place b q)) (r .at30 q h)
+
+pub day-length : (d : List ℕ) → DayRows d → length d ≡ 1 + 20 * classCount d + 14 * seriesCount d
+unfolding row11
+day-length d r =
+    eqb-true (length d) (1 + 20 * classCount d + 14 * seriesCount d) (not-off (eqb (length d) (1 + 20 * classCount d + 14 * seriesCount d)) (r .at11))

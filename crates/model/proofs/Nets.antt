@@ -87,10 +87,18 @@ module _ (d : List ℕ) (g k : ℕ) (s x h : ℕ) (hs : s < 256) (hx : x < 2) (h
       ∙ kept (dvpOf (position h x s)) b₁ b₂ e (λ w q. ap (λ (t : Bool). cond t (amount (getD w 3 0) (getD w 4 0) (getD w 5 0)) (pos 0)) (apart w q))
       ∙ sym (dvp-sum b₂ (position h x s))
 
--- an accepted day file has at most 256 series
-pub few-series : (d : List ℕ) → DayRows d → seriesCount d ≤ 256
-unfolding row10
-few-series d r = ltb-false 256 (seriesCount d) (or-right (eqb (length d) 0 || not (eqb (kind (dayHeader d)) 1) || ltb 0 (bits (payload (dayHeader d)) 16 13) || ltb 64 (classCount d)) (ltb 256 (seriesCount d)) (r .at10))
+-- an accepted day file has at most 64 classes and 256 series
+module _ (d : List ℕ) (r : DayRows d) where
+  abbrev front : Bool
+  front = eqb (length d) 0 || not (eqb (kind (dayHeader d)) 1) || ltb 0 (bits (payload (dayHeader d)) 16 13)
+
+  pub few-classes : classCount d ≤ 64
+  unfolding row10
+  few-classes = ltb-false 64 (classCount d) (or-right front (ltb 64 (classCount d)) (or-left (front || ltb 64 (classCount d)) (ltb 256 (seriesCount d)) (r .at10)))
+
+  pub few-series : seriesCount d ≤ 256
+  unfolding row10
+  few-series = ltb-false 256 (seriesCount d) (or-right (front || ltb 64 (classCount d)) (ltb 256 (seriesCount d)) (r .at10))
 
 -- so the positions of every other line agree
 pub agree : (d b₁ b₂ : List ℕ) (g k g′ k′ : ℕ) → DayRows d → Edit d g k b₁ b₂ → k′ < 2 → (g′ ≡ g → k′ ≡ k → ⊥)

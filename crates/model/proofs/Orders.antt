@@ -43,13 +43,15 @@ module _ (d b₁ b₂ : List ℕ) (o : Reordered b₁ b₂) where
   unfolding row20 row21 badRecordWord badDvp row22 row23 row24 row25 row26 row30
   rows r =
       record {
-        at20 = sym (λ i. eqb (o .long i) 0 || not (eqb (kind (o .header i)) 1) || ltb 256 (payload (o .header i))) ∙ r .at20;
-        at21 = sym (λ i. not (eqb (o .long i) (1 + 6 * payload (o .header i)))) ∙ r .at21;
-        at22 = carried b₁ b₂ (o .same) (λ w. row22 (0 ∷ w) 0) (r .at22);
-        at23 = carried b₁ b₂ (o .same) (λ w. row23 d (0 ∷ w) 0) (r .at23);
-        at24 = carried b₁ b₂ (o .same) (λ w. row24 d (0 ∷ w) 0) (r .at24);
-        at25 = carried b₁ b₂ (o .same) (λ w. row25 d (0 ∷ w) 0) (r .at25);
-        at26 = carried b₁ b₂ (o .same) (λ w. row26 d (0 ∷ w) 0) (r .at26);
+        checks = record {
+          at20 = sym (λ i. eqb (o .long i) 0 || not (eqb (kind (o .header i)) 1) || ltb 256 (payload (o .header i))) ∙ r .checks .at20;
+          at21 = sym (λ i. not (eqb (o .long i) (1 + 6 * payload (o .header i)))) ∙ r .checks .at21;
+          at22 = carried b₁ b₂ (o .same) (λ w. row22 (0 ∷ w) 0) (r .checks .at22);
+          at23 = carried b₁ b₂ (o .same) (λ w. row23 d (0 ∷ w) 0) (r .checks .at23);
+          at24 = carried b₁ b₂ (o .same) (λ w. row24 d (0 ∷ w) 0) (r .checks .at24);
+          at25 = carried b₁ b₂ (o .same) (λ w. row25 d (0 ∷ w) 0) (r .checks .at25);
+          at26 = carried b₁ b₂ (o .same) (λ w. row26 d (0 ∷ w) 0) (r .checks .at26);
+        };
         at30 =
             λ q h.
             ap (λ (n : ℕ → ℤ). ltb 10000000 (natAbs (n (keyOf (recordAt b₂ q))) * multiplier d (bits (payload (getD (recordAt b₂ q) 0 0)) 0 8))) (sym net-same)

@@ -59,7 +59,7 @@ module _ (d : List ℕ) (n v : ℕ → ℤ) where
     unfolding reportWords
     count-read = payload-word 1 (lineCount d n v) (omega (arith, count-small))
 
-    map-read : (k : ℕ) → k < 2 → mapIn w k ≡ bookMap d n v k
+    pub map-read : (k : ℕ) → k < 2 → mapIn w k ≡ bookMap d n v k
     unfolding reportWords
     map-read zero h = payload-word 4 (bookMap d n v 0) (map-small 0)
     map-read (suc zero) h = payload-word 4 (bookMap d n v 1) (map-small 1)

@@ -56,7 +56,7 @@ module _ (d b : List ℕ) (days : DayRows d) (recs : BatchRows d b) where
   unfolding dvp
   dvp-bound p =
       bound-where (recordCount b) (λ r. eqb (key b r) p) (λ r. eqb (key b r) p) (dvpAmount b) (λ r. 1) 5000000000000000 (λ r e. e)
-      (λ r h e. omega (arith, dvp-limit d b recs r h))
+      (λ r h e. omega (arith, dvp-limit d b (recs .checks) r h))
 
   -- an accepted batch is within its budget: no record is counted twice
   pub batch-budget : Budget d (net b) (dvp b)
@@ -64,7 +64,7 @@ module _ (d b : List ℕ) (days : DayRows d) (recs : BatchRows d b) where
       record {
         records = count;
         few =
-            omega (arith, parts-le 1024 (recordCount b) (λ r. true) (key b) (λ p. p) (λ r. 1) (λ i j e. e), sumN-ones (recordCount b), few-records d b recs);
+            omega (arith, parts-le 1024 (recordCount b) (λ r. true) (key b) (λ p. p) (λ r. 1) (λ i j e. e), sumN-ones (recordCount b), few-records d b (recs .checks));
         netLimit = λ k x s hs hx hk. net-bound k x s hs hx;
         dvpLimit = λ p h. dvp-bound p;
       }

@@ -5,6 +5,8 @@ use Prim.Native.Nat.{ℕ, _+_, _*_, _≤_, _<_}
 use lib.IntN.{natAbs}
 use lib.ListN.{length}
 use Rattle.model.specs.DayFile.{classCount, seriesCount}
+use Rattle.model.proofs.Accepted.{DayRows, BatchChecks}
+use Rattle.model.proofs.Limits.{batch-length, few-records, long-limit, short-limit, dvp-limit, place-limit, day-length}
 use Rattle.model.specs.Batch.{recordCount, place, long, short, dvpAmount}
 
 pub record Limited (b : List ℕ) : Type 0 where
@@ -18,3 +20,17 @@ pub record Limited (b : List ℕ) : Type 0 where
 pub record Placed (d b : List ℕ) : Type 0 where
   pub whole : length d ≡ 1 + 20 * classCount d + 14 * seriesCount d
   pub places : (r : ℕ) → r < recordCount b → place b r < seriesCount d
+
+-- what the checks of the two files give
+pub limited : (d b : List ℕ) → BatchChecks d b → Limited b
+limited d b r =
+    record {
+      whole = batch-length d b r;
+      few = few-records d b r;
+      longs = long-limit d b r;
+      shorts = short-limit d b r;
+      dvps = dvp-limit d b r;
+    }
+
+pub placed : (d b : List ℕ) → DayRows d → BatchChecks d b → Placed d b
+placed d b p r = record { whole = day-length d p; places = place-limit d b r }

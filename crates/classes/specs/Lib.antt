@@ -1,0 +1,4 @@
+pub mod Tables
+pub mod Range
+pub mod Starts
+pub mod Sizes

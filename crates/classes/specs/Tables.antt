@@ -1,0 +1,32 @@
+-- What the functions of the steps are given: an accepted day file, and a table of nets by position key that keeps within a budget.
+use mathlib.Core.List.{List}
+use Prim.Native.Nat.{ℕ, _≤_}
+use lib.IntN.{ℤ, pos}
+use lib.ListN.{getD}
+use Rattle.model.specs.DayFile.{classCount, seriesCount}
+use Rattle.model.proofs.Accepted.{DayRows}
+use Rattle.model.proofs.Nets.{few-series, few-classes}
+use Rattle.model.proofs.Records.{Budget}
+
+-- a table as the function of positions
+abbrev pub entry : List ℤ → ℕ → ℤ
+entry t p = getD t p (pos 0)
+
+-- an accepted day file, and its counts
+pub record Day (d : List ℕ) : Type 0 where
+  pub rows : DayRows d
+  pub classes : classCount d ≤ 64
+  pub series : seriesCount d ≤ 256
+
+-- with a table of nets
+pub record Given (d : List ℕ) (nets : List ℤ) : Type 0 where
+  pub day : Day d
+  pub dvp : ℕ → ℤ
+  pub budget : Budget d (entry nets) dvp
+
+-- what accepted files give
+pub accepted-day : (d : List ℕ) → DayRows d → Day d
+accepted-day d r = record { rows = r; classes = few-classes d r; series = few-series d r }
+
+pub given : (d : List ℕ) (nets : List ℤ) (v : ℕ → ℤ) → DayRows d → Budget d (entry nets) v → Given d nets
+given d nets v r w = record { day = accepted-day d r; dvp = v; budget = w }

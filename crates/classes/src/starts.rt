@@ -1,0 +1,55 @@
+// Where the series of each class start: one pass over the series, which stand by class.
+ghost use mathlib.Core.Path.{_≡_};
+ghost use Prim.Native.Nat.{_≤_, _<_};
+ghost use Rattle.numbers.specs.declared.Found.the-variants.{Nothing};
+ghost use Rattle.numbers.specs.Scan.{firstBad};
+ghost use Rattle.model.specs.DayFile.{classCount, seriesCount};
+ghost use Rattle.model.proofs.Accepted.{DayRows};
+ghost use Rattle.classes.specs.Tables.{Day};
+ghost use Rattle.classes.specs.Range.{startOf};
+ghost use Rattle.classes.specs.Starts.{reached, startTable};
+use crate::fields;
+
+// Series s is of class c or a later one.
+fn reaches(day: &[u32], c: usize, s: usize) -> bool
+    requires { ⌜ Day (now day) ⌝ }
+    requires { ⌜ (c < classCount (now day)) × (s < seriesCount (now day)) ⌝ }
+    ensures { λ r. ⌜ r ≡ reached (now (day .entry)) c s ⌝ }
+{
+    fields::class_number(day, c) <= fields::series_class_number(day, s)
+}
+
+// The first series of class c or a later one, none being below `from`.
+fn start(day: &[u32], c: usize, from: usize) -> usize
+    requires { ⌜ Day (now day) ⌝ }
+    requires { ⌜ (c < classCount (now day)) × (from ≤ seriesCount (now day)) ⌝ }
+    requires { ⌜ firstBad (reached (now day) c) from ≡ Nothing ⌝ }
+    ensures { λ r. ⌜ r ≡ startOf (now (day .entry)) c ⌝ }
+{
+    let count = fields::series_count(day);
+    let mut s = from;
+    while s < count {
+        if reaches(day, c, s) {
+            return s;
+        }
+        s = s + 1;
+    }
+    count
+}
+
+// The starts of all classes, and the end of the series for those that are not there.
+pub fn starts(day: &[u32]) -> [usize; 65]
+    requires { ⌜ DayRows (now day) ⌝ }
+    ensures { λ r. ⌜ r ≡ startTable (now (day .entry)) ⌝ }
+{
+    let classes = fields::class_count(day);
+    let mut table = [fields::series_count(day); 65];
+    let mut s: usize = 0;
+    let mut c: usize = 0;
+    while c < classes {
+        s = start(day, c, s);
+        table[c] = s;
+        c = c + 1;
+    }
+    table
+}

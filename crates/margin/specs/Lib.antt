@@ -1,0 +1,4 @@
+pub mod Offset
+pub mod Groups
+pub mod Presence
+pub mod Lines

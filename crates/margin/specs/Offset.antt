@@ -1,0 +1,57 @@
+-- The share of a credit by its quotient and its remainder by 100; and the largest of some amounts, as a loop finds it.
+use mathlib.Core.Path.{_≡_, refl, sym, ap, subst, _∙_}
+use mathlib.Core.Bool.{true, false}
+use Prim.Native.Nat.{ℕ, zero, suc, _+_, _*_, _/_, _%_}
+use native.Mathlib.Nat.{not-suc-le-zero, zero-mul, add-mul, mul-assoc, div-add-mod, mul-add-div}
+use native.Mathlib.Numerals.{add-one}
+use native.Mathlib.Omega.{arith}
+use borrow.Author.Tests.{leb-false, le-ltb}
+use lib.Dec.{lit<, T}
+use lib.IntN.{ℤ, pos, negsuc, negℤ, _+ℤ_, _*ℤ_, negℤ-+ℤ}
+use lib.Signed.{leZ, quotZ, remZ}
+use Rattle.numbers.specs.Extremes.{largest, maxZ}
+use Rattle.model.specs.Steps.Additional.{afterOffset}
+
+neg-mul : (a p : ℕ) → negℤ (pos a) *ℤ pos p ≡ negℤ (pos (a * p))
+neg-mul zero p = ap pos (zero-mul p) ∙ sym (ap (λ (n : ℕ). negℤ (pos n)) (zero-mul p))
+neg-mul (suc a) p = refl
+
+neg-quot : (a : ℕ) → quotZ (negℤ (pos a)) (pos 100) ≡ negℤ (pos (a / 100))
+neg-quot zero = refl
+neg-quot (suc a) = refl
+
+split : (x p : ℕ) → x / 100 * p + x % 100 * p / 100 ≡ x * p / 100
+split x p =
+    sym (ap (λ (n : ℕ). n * p / 100) (sym (div-add-mod x 100)) ∙ ap (λ (n : ℕ). n / 100) (add-mul (100 * (x / 100)) (x % 100) p ∙ ap (λ (n : ℕ). n + x % 100 * p) (mul-assoc 100 (x / 100) p))
+    ∙ mul-add-div (lit< tt) (x / 100 * p) (x % 100 * p))
+
+split-neg : (n p : ℕ) → quotZ (negsuc n) (pos 100) *ℤ pos p +ℤ quotZ (remZ (negsuc n) (pos 100) *ℤ pos p) (pos 100) ≡ quotZ (negsuc n *ℤ pos p) (pos 100)
+split-neg n p =
+    (λ i. neg-mul (suc n / 100) p i +ℤ (ap (λ (z : ℤ). quotZ z (pos 100)) (neg-mul (suc n % 100) p) ∙ neg-quot (suc n % 100 * p)) i)
+    ∙ sym (negℤ-+ℤ (pos (suc n / 100 * p)) (pos (suc n % 100 * p / 100)))
+    ∙ ap (λ (m : ℕ). negℤ (pos m)) (split (suc n) p)
+    ∙ sym (neg-quot (suc n * p))
+
+-- by the test of the code
+pub debit-whole : (p : ℕ) (z : ℤ) → leZ (pos 0) z ≡ true → z ≡ afterOffset p z
+unfolding afterOffset
+debit-whole p (pos n) h = rw (le-ltb n 0 (omega arith))
+debit-whole p (negsuc n) h = absurd (subst T (sym h) tt)
+
+pub credit-split : (p : ℕ) (z : ℤ) → leZ (pos 0) z ≡ false → quotZ z (pos 100) *ℤ pos p +ℤ quotZ (remZ z (pos 100) *ℤ pos p) (pos 100) ≡ afterOffset p z
+unfolding afterOffset
+credit-split p (pos n) h = absurd (not-suc-le-zero (leb-false 0 n h))
+credit-split p (negsuc n) h = split-neg n p
+
+-- ---- the largest
+
+pub largest-none : (f : ℕ → ℤ) → pos 0 ≡ largest 0 f
+unfolding largest
+largest-none f = refl
+
+largest-suc : (n : ℕ) (f : ℕ → ℤ) → maxZ (largest n f) (f n) ≡ largest (suc n) f
+unfolding largest
+largest-suc n f = refl
+
+pub largest-more : (n : ℕ) (f : ℕ → ℤ) → maxZ (largest n f) (f n) ≡ largest (n + 1) f
+largest-more n f = rw add-one (largest-suc n f)

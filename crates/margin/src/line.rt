@@ -1,0 +1,76 @@
+// Steps 7 and 8: the line of a group in a book.
+ghost use mathlib.Core.Path.{_≡_};
+ghost use mathlib.Core.List.{[], _∷_};
+ghost use Prim.Native.Nat.{_≤_, _<_};
+ghost use lib.IntN.{pos, natAbs, _+ℤ_};
+ghost use lib.ListN.{getD};
+ghost use Rattle.numbers.specs.Extremes.{maxZ, largest};
+ghost use Rattle.model.specs.Steps.Margin.{lineAmounts};
+ghost use Rattle.model.specs.Steps.Lines.{hasLine};
+ghost use Rattle.model.proofs.Accepted.{DayRows};
+ghost use Rattle.model.proofs.Records.{Budget};
+ghost use Rattle.classes.specs.Tables.{entry};
+ghost use Rattle.classes.specs.Starts.{startTable};
+use crate::additional;
+use crate::group;
+use crate::presence;
+use points::accumulator::Points;
+
+pub struct Line {
+    pub present: bool,
+    pub spread: i64,
+    pub mtm: i64,
+    pub premium: i64,
+    pub requirement: i64,
+    pub margin: i64,
+    pub residual: i64,
+}
+
+// Additional requirement: the larger of additional and minimum.
+fn additional_requirement(points: Points, minimum: i64) -> i64
+    ensures { λ r. ⌜ r ≡ maxZ (largest 10 (λ k. getD (points .at) k (pos 0))) minimum ⌝ }
+{
+    amounts::larger(additional::largest(points), minimum)
+}
+
+// Spread + MTM + premium + additional requirement.
+fn group_sum(spread: i64, mtm: i64, premium: i64, requirement: i64) -> i64
+    requires { ⌜ (natAbs spread ≤ 1920000000000000000) × (natAbs mtm ≤ 2560000000000000000) × (natAbs premium ≤ 1280000000000000000) × (natAbs requirement ≤ 1280000000000000000) ⌝ }
+    ensures { λ r. ⌜ r ≡ spread +ℤ mtm +ℤ premium +ℤ requirement ⌝ }
+{
+    amounts::add(
+        amounts::add(amounts::add(spread, mtm), premium),
+        requirement,
+    )
+}
+
+// The line of group g: margin is the group sum if positive, residual credit its negative if negative.
+pub fn group_line(
+    day: &[u32],
+    starts: &[usize; 65],
+    nets: &[i64],
+    dvps: &[i64],
+    book: usize,
+    g: usize,
+) -> Line
+    requires { ⌜ DayRows (now day) ⌝ }
+    requires { ⌜ Budget (now day) (entry (now nets)) (entry (now dvps)) ⌝ }
+    requires { ⌜ (book < 2) × (g < 29) ⌝ }
+    requires { ⌜ now starts ≡ startTable (now day) ⌝ }
+    ensures { λ r. ⌜ (r .present ≡ hasLine (now (day .entry)) (entry (now (nets .entry))) (entry (now (dvps .entry))) book g) × ((r .spread ∷ r .mtm ∷ r .premium ∷ r .requirement ∷ r .margin ∷ r .residual ∷ []) ≡ lineAmounts (now (day .entry)) (entry (now (nets .entry))) (entry (now (dvps .entry))) book g) ⌝ }
+{
+    let present = presence::has_line(day, starts, nets, dvps, book, g);
+    let sums = group::group_amounts(day, starts, nets, dvps, book, g);
+    let points = sums.points;
+    let requirement = additional_requirement(points, sums.minimum);
+    let total = group_sum(sums.spread, sums.mtm, sums.premium, requirement);
+    Line {
+        present: present,
+        spread: sums.spread,
+        mtm: sums.mtm,
+        premium: sums.premium,
+        requirement: requirement,
+        margin: amounts::larger(total, 0),
+        residual: amounts::larger(amounts::sub(0, total), 0),
+    }
+}

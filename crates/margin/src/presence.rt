@@ -1,0 +1,93 @@
+// Step 9: which groups have a line in a book.
+ghost use mathlib.Core.Path.{_≡_};
+ghost use Prim.Native.Nat.{_+_, _≤_, _<_};
+ghost use Rattle.numbers.specs.Scan.{anyBelow};
+ghost use Rattle.model.specs.DayFile.{classCount};
+ghost use Rattle.model.specs.Netting.{position};
+ghost use Rattle.model.specs.Steps.Positions.{held};
+ghost use Rattle.model.specs.Steps.Lines.{hasLine};
+ghost use Rattle.model.proofs.Accepted.{DayRows};
+ghost use Rattle.classes.specs.Tables.{entry, Day};
+ghost use Rattle.classes.specs.Starts.{startTable};
+ghost use Rattle.margin.specs.Presence.{heldAt, classHeld};
+use classes::fields;
+
+// A position has net or DVP not zero.
+fn position_held(nets: &[i64], dvps: &[i64], book: usize, x: usize, s: usize) -> bool
+    requires { ⌜ (book < 2) × (x < 2) × (s < 512) ⌝ }
+    ensures { λ r. ⌜ r ≡ held (entry (now (nets .entry))) (entry (now (dvps .entry))) (position book x s) ⌝ }
+{
+    amounts::not_zero(fields::position_amount(nets, book, x, s))
+        | amounts::not_zero(fields::position_amount(dvps, book, x, s))
+}
+
+// One of the positions of series s has.
+fn series_held(nets: &[i64], dvps: &[i64], book: usize, s: usize) -> bool
+    requires { ⌜ (book < 2) × (s < 512) ⌝ }
+    ensures { λ r. ⌜ r ≡ heldAt (entry (now (nets .entry))) (entry (now (dvps .entry))) book s ⌝ }
+{
+    position_held(nets, dvps, book, 0, s) | position_held(nets, dvps, book, 1, s)
+}
+
+// One of `count` series from a on has.
+fn any_held(nets: &[i64], dvps: &[i64], book: usize, a: usize, count: usize) -> bool
+    requires { ⌜ (book < 2) × (a + count ≤ 256) ⌝ }
+    ensures { λ r. ⌜ r ≡ anyBelow count (λ i. heldAt (entry (now (nets .entry))) (entry (now (dvps .entry))) book (a + i)) ⌝ }
+{
+    let mut i: usize = 0;
+    while i < count {
+        if series_held(nets, dvps, book, a + i) {
+            return true;
+        }
+        i = i + 1;
+    }
+    false
+}
+
+// Class c is of group g and has a position held.
+fn class_held(
+    day: &[u32],
+    starts: &[usize; 65],
+    nets: &[i64],
+    dvps: &[i64],
+    book: usize,
+    g: usize,
+    c: usize,
+) -> bool
+    requires { ⌜ Day (now day) ⌝ }
+    requires { ⌜ (book < 2) × (c < classCount (now day)) ⌝ }
+    requires { ⌜ now starts ≡ startTable (now day) ⌝ }
+    ensures { λ r. ⌜ r ≡ classHeld (now (day .entry)) (entry (now (nets .entry))) (entry (now (dvps .entry))) book g c ⌝ }
+{
+    if fields::index(fields::group_of(day, c)) != g {
+        return false;
+    }
+    let a = starts[c];
+    let b = starts[c + 1];
+    any_held(nets, dvps, book, a, b - a)
+}
+
+// Group g has a line in this book.
+pub fn has_line(
+    day: &[u32],
+    starts: &[usize; 65],
+    nets: &[i64],
+    dvps: &[i64],
+    book: usize,
+    g: usize,
+) -> bool
+    requires { ⌜ DayRows (now day) ⌝ }
+    requires { ⌜ book < 2 ⌝ }
+    requires { ⌜ now starts ≡ startTable (now day) ⌝ }
+    ensures { λ r. ⌜ r ≡ hasLine (now (day .entry)) (entry (now (nets .entry))) (entry (now (dvps .entry))) book g ⌝ }
+{
+    let classes = fields::class_count(day);
+    let mut c: usize = 0;
+    while c < classes {
+        if class_held(day, starts, nets, dvps, book, g, c) {
+            return true;
+        }
+        c = c + 1;
+    }
+    false
+}

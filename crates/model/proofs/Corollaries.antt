@@ -1,0 +1,46 @@
+-- What a reader may cite about the two calls, for all inputs: an index of the statements.
+use mathlib.Core.Path.{_≡_}
+use mathlib.Core.List.{List}
+use Prim.Native.Nat.{ℕ, _≤_}
+use lib.ListN.{length}
+use Rattle.model.specs.declared.Answer.the-variants.{Refused}
+use Rattle.model.specs.declared.Check.{Check}
+use Rattle.model.specs.declared.Verdict.the-variants.{Passed}
+use Rattle.model.specs.Calls.{Accepted, answer, needed, memoryAfter}
+use Rattle.model.specs.Bytes.{wordsOf, bytesCheck, byteAnswer, bytesAfter}
+use Rattle.model.proofs.Untouched.{refused-writes-nothing, length-kept, bytes-refused-writes-nothing, bytes-length-kept}
+use Rattle.model.proofs.Written.{Written, accepted-writes}
+use Rattle.model.proofs.Readable.{Readable, readable}
+use Rattle.model.proofs.Totals.{Totals, totals-are-margins}
+use Rattle.model.proofs.ByteWords.{bytes-as-words}
+
+pub record Corollaries : Type 0 where
+  -- a refusal leaves the memory as it was
+  pub refused : (d b m : List ℕ) (k : Check) → answer d b (length m) ≡ Refused k → memoryAfter d b m ≡ m
+  -- no call changes its length
+  pub long : (d b m : List ℕ) → length (memoryAfter d b m) ≡ length m
+  -- accepted, with room: the answer is the length, and header, maps, lines, totals and the old words stand in this order
+  pub written : (d b m : List ℕ) → Accepted d b → needed d b ≤ length m → Written d b m
+  -- the amounts read from the words are those of the steps
+  pub read : (d b m : List ℕ) → Accepted d b → needed d b ≤ length m → Readable d b (memoryAfter d b m)
+  -- the totals read are sums of the lines' margins, whatever the residual credits
+  pub totals : (d b m : List ℕ) → Accepted d b → needed d b ≤ length m → Totals (memoryAfter d b m)
+
+-- the byte call: the same of its refusals and its length; past rows 1 and 2 it is the call over words
+pub record ByteCorollaries : Type 0 where
+  pub refused : (day b m : List ℕ) (k : Check) → byteAnswer day b (length m) ≡ Refused k → bytesAfter day b m ≡ m
+  pub long : (day b m : List ℕ) → length (bytesAfter day b m) ≡ length m
+  pub words : (day b m : List ℕ) → bytesCheck day b ≡ Passed → wordsOf (bytesAfter day b m) ≡ memoryAfter (wordsOf day) (wordsOf b) (wordsOf m)
+
+pub corollaries : Corollaries
+corollaries =
+    record {
+      refused = refused-writes-nothing;
+      long = length-kept;
+      written = accepted-writes;
+      read = readable;
+      totals = totals-are-margins;
+    }
+
+pub byte-corollaries : ByteCorollaries
+byte-corollaries = record { refused = bytes-refused-writes-nothing; long = bytes-length-kept; words = bytes-as-words }

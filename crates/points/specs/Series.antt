@@ -1,0 +1,127 @@
+-- What the two positions of a series add, in the form of the accumulator; and the amounts of a class as a loop over its range has them.
+use mathlib.Core.Path.{_≡_, refl, sym, ap, _∙_}
+use mathlib.Core.Bool.{Bool, true, false, cond}
+use mathlib.Core.List.{List}
+use Prim.Native.Nat.{ℕ, zero, suc, _+_, _*_, _≤_, _<_}
+use native.Mathlib.Nat.{mul-le-mul, le-refl, le-trans}
+use native.Mathlib.Omega.{arith}
+use lib.IntN.{ℤ, pos, negsuc, negℤ, natAbs, _+ℤ_, _-ℤ_, _*ℤ_, +ℤ-assoc, zero-*ℤ, *ℤ-zero}
+use lib.ListN.{getD}
+use Rattle.numbers.specs.Abs.{natAbs-*}
+use Rattle.numbers.specs.Sums.{sumWhere}
+use Rattle.numbers.specs.Table.{tabulate, getD-tabulate, tabulate-ext}
+use Rattle.model.specs.DayFile.{classCount, seriesCount, seriesType, multiplier, closing, theoretical, underlying, projected, isCall, isPut, isFuture}
+use Rattle.model.specs.Steps.Positions.{openNet, exercisedNet}
+use Rattle.model.specs.Steps.Classes.{ofClass, worth, turned}
+use Rattle.model.specs.Steps.Spread.{spreadQuantity, shortBefore, longBefore, nonSpread}
+use Rattle.model.specs.Steps.Points.{openChange, exercisedChange, countedNet, pointOf, classPoint}
+use Rattle.model.proofs.Accepted.{DayRows}
+use Rattle.model.proofs.Limits.{class-price, series-price}
+use Rattle.model.proofs.Bounds.{turned-abs, counted-bound, point-so-far}
+use Rattle.classes.specs.Tables.{entry, Given}
+use Rattle.classes.specs.Range.{Range, sum-start, sum-turn, sum-end}
+use Rattle.classes.specs.Sizes.{contracts-size}
+use Rattle.spread.specs.Sides.{nonSpreadOf}
+use Rattle.points.specs.Added.{changeAmount, addedAt, added}
+
+neg-mul : (x y : ℤ) → negℤ x *ℤ y ≡ x *ℤ negℤ y
+neg-mul (pos zero) y = zero-*ℤ y ∙ sym (zero-*ℤ (negℤ y))
+neg-mul (pos (suc a)) (pos zero) = *ℤ-zero (negsuc a) ∙ sym (*ℤ-zero (pos (suc a)))
+neg-mul (pos (suc a)) (pos (suc b)) = refl
+neg-mul (pos (suc a)) (negsuc b) = refl
+neg-mul (negsuc a) (pos zero) = *ℤ-zero (pos (suc a)) ∙ sym (*ℤ-zero (negsuc a))
+neg-mul (negsuc a) (pos (suc b)) = refl
+neg-mul (negsuc a) (negsuc b) = refl
+
+-- a put's sign may stand at the contracts
+turned-mul : (t : ℕ) (x y : ℤ) → turned t x *ℤ y ≡ x *ℤ turned t y
+turned-mul t x y = by (isCall t) (isPut t)
+  where
+    by : (a b : Bool) → cond a x (cond b (negℤ x) (pos 0)) *ℤ y ≡ x *ℤ cond a y (cond b (negℤ y) (pos 0))
+    by true b = refl
+    by false true = neg-mul x y
+    by false false = zero-*ℤ y ∙ sym (*ℤ-zero x)
+
+-- the two positions of a series, one after the other
+module _ (d : List ℕ) (n : ℕ → ℤ) (k c s : ℕ) (at : List ℤ) where
+  abbrev z : ℤ
+  z = countedNet d n k c s *ℤ pos (multiplier d s)
+
+  abbrev x : ℤ
+  x = exercisedNet n k s *ℤ pos (multiplier d s)
+
+  pub both-added : added (added at z (closing d s) (tabulate 10 (theoretical d s))) (turned (seriesType d s) x) (underlying d c) (tabulate 10 (projected d c))
+      ≡ tabulate 10 (λ j. getD at j (pos 0) +ℤ pointOf d n k c j s)
+  both-added =
+      tabulate-ext 10 _ (λ j. getD at j (pos 0) +ℤ pointOf d n k c j s)
+      (λ j h.
+      (λ i.
+      (getD-tabulate 10 (addedAt at z (closing d s) (tabulate 10 (theoretical d s))) j (pos 0) h
+      ∙ ap (λ (p : ℕ). getD at j (pos 0) +ℤ changeAmount z (closing d s) p) (getD-tabulate 10 (theoretical d s) j 0 h)) i
+      +ℤ (ap (changeAmount (turned (seriesType d s) x) (underlying d c)) (getD-tabulate 10 (projected d c) j 0 h)
+      ∙ turned-mul (seriesType d s) x (pos (projected d c j) -ℤ pos (underlying d c))) i)
+      ∙ +ℤ-assoc (getD at j (pos 0)) (worth d s (countedNet d n k c s) (openChange d s j)) (worth d s (exercisedNet n k s) (exercisedChange d c s j)))
+
+-- ---- the net that counts
+
+pub counted : (d : List ℕ) (n : ℕ → ℤ) (k c s : ℕ)
+    → cond (isFuture (seriesType d s)) (nonSpreadOf (spreadQuantity d n k c) (shortBefore d n k c s) (longBefore d n k c s) (openNet n k s)) (openNet n k s)
+    ≡ countedNet d n k c s
+unfolding countedNet nonSpread
+counted d n k c s = refl
+
+module _ (d : List ℕ) (nets : List ℤ) (w : Given d nets) (k c s : ℕ) (hk : k < 2) (hc : c < classCount d) (hs : s < seriesCount d) where
+  pub counted-size : natAbs (countedNet d (entry nets) k c s) * multiplier d s ≤ 2560000000
+  counted-size =
+      le-trans (mul-le-mul (counted-bound d (entry nets) (w .dvp) (w .day .rows) (w .budget) k hk c hc s) (le-refl (multiplier d s)))
+      (contracts-size d nets w k 0 s hk (omega arith) hs)
+
+  pub exercised-size : natAbs (turned (seriesType d s) (exercisedNet (entry nets) k s *ℤ pos (multiplier d s))) ≤ 2560000000
+  exercised-size =
+      omega (
+        arith,
+        turned-abs (seriesType d s) (exercisedNet (entry nets) k s *ℤ pos (multiplier d s)),
+        natAbs-* (exercisedNet (entry nets) k s) (pos (multiplier d s)),
+        contracts-size d nets w k 1 s hk (omega arith) hs,
+      )
+
+-- ---- the class
+
+-- the ten amounts of the series below m
+abbrev pub pointsTo : List ℕ → (ℕ → ℤ) → ℕ → ℕ → ℕ → List ℤ
+pointsTo d n k c m = tabulate 10 (λ j. sumWhere m (ofClass d c) (pointOf d n k c j))
+
+module _ (d : List ℕ) (n : ℕ → ℤ) (k c a b : ℕ) (r : Range d c a b) where
+  pub points-start : tabulate 10 (λ j. pos 0) ≡ pointsTo d n k c a
+  points-start =
+      tabulate-ext 10 (λ j. pos 0) _ (λ j h. sum-start d c a b r (ofClass d c) (λ s. true) (λ s e. e) (λ s e. e) (pointOf d n k c j))
+
+  pub points-turn : (s : ℕ) → a ≤ s → s < b → tabulate 10 (λ j. getD (pointsTo d n k c s) j (pos 0) +ℤ pointOf d n k c j s) ≡ pointsTo d n k c (s + 1)
+  points-turn s p q =
+      tabulate-ext 10 _ _
+      (λ j h.
+      ap (λ (z : ℤ). z +ℤ pointOf d n k c j s) (getD-tabulate 10 (λ j. sumWhere s (ofClass d c) (pointOf d n k c j)) j (pos 0) h)
+      ∙ sym (sum-turn d c a b r (ofClass d c) (λ s. true) (λ s e. e) (λ s e. e) (pointOf d n k c j) s p q))
+
+  pub points-end : (s : ℕ) → s ≡ b → pointsTo d n k c s ≡ tabulate 10 (classPoint d n k c)
+  unfolding classPoint
+  points-end s e =
+      ap (pointsTo d n k c) e
+      ∙ tabulate-ext 10 _ _ (λ j h. sum-end d c a b r (ofClass d c) (λ s. true) (λ s e. e) (λ s e. e) (pointOf d n k c j))
+
+pub points-size : (d : List ℕ) (nets : List ℤ) → Given d nets → (k c m : ℕ) → k < 2 → c < classCount d → m ≤ seriesCount d
+    → (j : ℕ) → j < 10 → natAbs (getD (pointsTo d (entry nets) k c m) j (pos 0)) ≤ 1280000000000000000
+points-size d nets w k c m hk hc hm j h =
+    rw (getD-tabulate 10 (λ j. sumWhere m (ofClass d c) (pointOf d (entry nets) k c j)) j (pos 0) h)
+    (point-so-far d (entry nets) (w .dvp) (w .day .rows) (w .budget) k c m hk hc hm j h)
+
+-- ---- prices are within their limit
+
+module _ (d : List ℕ) (r : DayRows d) where
+  pub theoretical-limit : (s : ℕ) → s < seriesCount d → (j : ℕ) → j < 10 → getD (tabulate 10 (theoretical d s)) j 0 ≤ 500000000
+  theoretical-limit s h j l =
+      rw (getD-tabulate 10 (theoretical d s) j 0 l) (series-price d r s h (4 + j) (omega arith) (λ z. omega arith) (λ z. omega arith))
+
+  pub projected-limit : (c : ℕ) → c < classCount d → (j : ℕ) → j < 10 → getD (tabulate 10 (projected d c)) j 0 ≤ 500000000
+  projected-limit c h j l =
+      rw (getD-tabulate 10 (projected d c) j 0 l) (class-price d r c h (10 + j) (omega arith) (λ z. omega arith) (λ z. omega arith))

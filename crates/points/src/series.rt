@@ -1,0 +1,80 @@
+// The two positions of a series: open, and exercised or assigned.
+ghost use mathlib.Core.Path.{_≡_};
+ghost use mathlib.Core.Bool.{cond};
+ghost use Prim.Native.Nat.{ℕ, _*_, _≤_, _<_};
+ghost use lib.IntN.{pos, natAbs, _+ℤ_, _*ℤ_};
+ghost use lib.ListN.{getD};
+ghost use Rattle.numbers.specs.Table.{tabulate};
+ghost use Rattle.model.specs.DayFile.{classCount, seriesCount, seriesType, isFuture, multiplier, closing, theoretical, underlying, projected};
+ghost use Rattle.model.specs.Steps.Classes.{turned};
+ghost use Rattle.model.specs.Steps.Spread.{spreadQuantity, shortBefore, longBefore};
+ghost use Rattle.model.specs.Steps.Points.{pointOf};
+ghost use Rattle.classes.specs.Tables.{entry, Given};
+ghost use Rattle.spread.specs.Sides.{nonSpreadOf};
+use crate::accumulator::Points;
+use crate::accumulator::Position;
+use classes::fields;
+use classes::worth;
+use spread::sides::Sides;
+
+// An open position moves from the closing price to the theoretical prices.
+fn open_position(day: &[u32], s: usize, net: i64) -> Position
+    requires { ⌜ (s < 512) × (natAbs net * multiplier (now day) s ≤ 2560000000) ⌝ }
+    ensures { λ r. ⌜ (r .contracts ≡ net *ℤ pos (multiplier (now (day .entry)) s)) × (r .base ≡ closing (now (day .entry)) s) × (r .prices ≡ tabulate 10 (theoretical (now (day .entry)) s)) ⌝ }
+{
+    let prices = fields::theoretical_prices(day, s);
+    Position {
+        contracts: worth::contracts(day, s, net),
+        base: fields::series_field(day, s, 3),
+        prices: prices,
+    }
+}
+
+// An exercised or assigned one moves from the underlying price to the projected ones, a put the other way.
+fn exercised_position(day: &[u32], c: usize, s: usize, net: i64) -> Position
+    requires { ⌜ (c < 64) × (s < 512) × (natAbs net * multiplier (now day) s ≤ 2560000000) ⌝ }
+    ensures { λ r. ⌜ (r .contracts ≡ turned (seriesType (now (day .entry)) s) (net *ℤ pos (multiplier (now (day .entry)) s))) × (r .base ≡ underlying (now (day .entry)) c) × (r .prices ≡ tabulate 10 (projected (now (day .entry)) c)) ⌝ }
+{
+    let prices = fields::projected_prices(day, c);
+    Position {
+        contracts: worth::turned(fields::series_type(day, s), worth::contracts(day, s, net)),
+        base: fields::class_field(day, c, 1),
+        prices: prices,
+    }
+}
+
+// The open net that counts: futures with only their non-spread net.
+fn counted_net(day: &[u32], s: usize, net: i64, quantity: i64, before: Sides) -> i64
+    requires { ⌜ (s < 512) × (natAbs quantity ≤ 2560000000) × (natAbs (before .short) ≤ 2560000000) × (natAbs (before .long) ≤ 2560000000) × (natAbs net ≤ 2560000000) ⌝ }
+    ensures { λ r. ⌜ r ≡ cond (isFuture (seriesType (now (day .entry)) s)) (nonSpreadOf quantity (before .short) (before .long) net) net ⌝ }
+{
+    if fields::series_type(day, s) != 1 {
+        return net;
+    }
+    spread::left::non_spread(quantity, before, net)
+}
+
+// The ten amounts with those of both positions of series s.
+pub fn add_series(
+    points: Points,
+    day: &[u32],
+    nets: &[i64],
+    book: usize,
+    c: usize,
+    s: usize,
+    quantity: i64,
+    before: Sides,
+) -> Points
+    requires { ⌜ Given (now day) (now nets) ⌝ }
+    requires { ⌜ (book < 2) × (c < classCount (now day)) × (s < seriesCount (now day)) ⌝ }
+    requires { ⌜ quantity ≡ spreadQuantity (now day) (entry (now nets)) book c ⌝ }
+    requires { ⌜ (before .short ≡ shortBefore (now day) (entry (now nets)) book c s) × (before .long ≡ longBefore (now day) (entry (now nets)) book c s) ⌝ }
+    requires { ⌜ ((k : ℕ) → k < 10 → natAbs (getD (points .at) k (pos 0)) ≤ 1280000000000000000) ⌝ }
+    ensures { λ r. ⌜ r .at ≡ tabulate 10 (λ k. getD (points .at) k (pos 0) +ℤ pointOf (now (day .entry)) (entry (now (nets .entry))) book c k s) ⌝ }
+{
+    let net = fields::position_amount(nets, book, 0, s);
+    let open = open_position(day, s, counted_net(day, s, net, quantity, before));
+    let exercised = exercised_position(day, c, s, fields::position_amount(nets, book, 1, s));
+    let next = points.add(open);
+    next.add(exercised)
+}

@@ -1,0 +1,85 @@
+use borrow.Author.Needs.{needs}
+use native.Mathlib.Omega.{arith}
+use native.Mathlib.Nat.{le-trans}
+use mathlib.Core.Path.{_≡_, refl, sym, ap, _∙_}
+use mathlib.Core.Bool.{Bool}
+use Prim.Native.Nat.{ℕ, _+_, _*_, _-_, _^_, _≤_, _<_}
+use denote.Ref.{now}
+use lib.Pow.{pow-mono}
+use Rattle.numbers.specs.Maps.{mapBelow, map-none, map-lt}
+use Rattle.model.specs.Report.{bookMap}
+use Rattle.model.specs.Steps.Lines.{hasLine}
+use Rattle.classes.specs.Tables.{entry}
+use Rattle.report.specs.Maps.{map-more, power-more}
+use Rattle.report.proofs.maps.book_map.Statement.{statement}
+use Rattle.report.proofs.maps.book_map.Tie as tie
+
+abbrev Inv-loop : tie.InvT-loop
+Inv-loop day starts nets dvps book map₀ bit₀ g₀ map bit g =
+    (g ≤ 29) × (map ≡ mapBelow (hasLine day (entry nets) (entry dvps) book) g) × (bit ≡ 2 ^ g)
+
+abbrev μ-loop : tie.MeasureT-loop
+μ-loop day starts nets dvps book map₀ bit₀ g₀ map bit g = 29 - g
+
+module _ (c : tie.In-loop Inv-loop μ-loop) where
+  abbrev t : ℕ → Bool
+  t = hasLine (now (c .before .before .before .args .day)) (entry (now (c .before .before .before .args .nets))) (entry (now (c .before .before .before .args .dvps))) (c .before .before .before .args .book)
+
+  abbrev g : ℕ
+  g = c .before .loop .g
+
+  bit-size : c .before .loop .bit ≤ 2 ^ 28
+  bit-size = let h : g ≤ 28 = omega arith in omega (arith, c .before .loop .inv .2, pow-mono h)
+
+  map-size : c .before .loop .map < 2 ^ 29
+  map-size = let h : g ≤ 29 = omega arith in omega (arith, c .before .loop .inv .1, map-lt t g, pow-mono h)
+
+loop-holds : tie.Need-loop-holds Inv-loop μ-loop
+loop-holds c = let s = c .before .args in (omega arith, sym (map-none (hasLine (now (s .day)) (entry (now (s .nets))) (entry (now (s .dvps))) (s .book))), refl)
+
+has-line-requires : tie.Need-has-line-requires Inv-loop μ-loop
+has-line-requires c κs = let p = c .before .before .before .pre in (p .0, (p .1 .0, p .1 .1))
+
+with-bit-requires : tie.Need-with-bit-requires Inv-loop μ-loop
+with-bit-requires c κs = (map-size (c .before), omega (arith, bit-size (c .before)))
+
+mul-bit : tie.Need-mul-bit Inv-loop μ-loop
+mul-bit c = record { fits = omega (arith, bit-size (c .before .before)) }
+
+add-g : tie.Need-add-g Inv-loop μ-loop
+add-g c = search needs
+
+loop-less : tie.Need-loop-less Inv-loop μ-loop
+loop-less c = search needs
+
+loop-again : tie.Need-loop-again Inv-loop μ-loop
+loop-again c =
+    let l = c .before .before in (
+      omega arith,
+      c .with-bit .ensures ∙ map-more (t l) (g l) (l .before .loop .map) (l .before .loop .bit) (c .before .has-line .result) (l .before .loop .inv .1) (l .before .loop .inv .2) (c .before .has-line .ensures),
+      power-more (g l) (l .before .loop .bit) (l .before .loop .inv .2),
+    )
+
+returns : tie.Need-returns Inv-loop μ-loop
+unfolding bookMap
+returns c =
+    let s = c .before .before .before .args in
+    let e : c .before .loop .g ≡ 29 = omega arith in
+    let h = hasLine (now (s .day)) (entry (now (s .nets))) (entry (now (s .dvps))) (s .book) in
+    let q = c .before .loop .inv .1 ∙ ap (mapBelow h) e in
+    (q, omega (arith, q, map-lt h 29))
+
+pub book-map-spec : {M : Type 1} → statement M
+book-map-spec =
+    tie.close
+    (tie.spec
+    Inv-loop
+    μ-loop
+    loop-holds
+    has-line-requires
+    with-bit-requires
+    mul-bit
+    add-g
+    loop-less
+    loop-again
+    returns)

@@ -1,0 +1,83 @@
+use borrow.Author.Needs.{needs}
+use mathlib.Core.Path.{_≡_, refl, sym, ap, _∙_}
+use mathlib.Core.List.{List}
+use lib.IntN.{ℤ, pos}
+use lib.ListN.{length}
+use denote.Ref.{now}
+use Rattle.numbers.specs.Table.{tabulate, replicate-tabulate}
+use Rattle.model.specs.declared.Verdict.{Verdict}
+use Rattle.model.specs.declared.Verdict.the-variants.{Passed}
+use Rattle.model.specs.DayChecks.{dayCheck}
+use Rattle.model.specs.BatchChecks.{batchCheck}
+use Rattle.model.specs.Calls.{Accepted, answerOf, roomAnswer, needed, report, written}
+use Rattle.model.specs.Report.{wordsNeeded}
+use Rattle.model.proofs.Accepted.{DayRows, BatchChecks, day-checked, batch-checked, all-passed, batch-rows}
+use Rattle.netting.specs.Limits.{limited, placed}
+use Rattle.report.specs.Calls.{answer-day, answer-batch, answer-checked, memory-of, tables-budget, tables-report, tables-needed}
+use Rattle.report.proofs.report.Statement.{statement}
+use Rattle.report.proofs.report.Tie as tie
+
+check-day-requires : tie.Need-check-day-requires
+check-day-requires c κs = search needs
+
+enum-known-check : tie.Need-enum-known-check
+enum-known-check c = search needs
+
+returns : tie.Need-returns
+returns c =
+    let s = c .before .before .before .before .before .before .before in
+    let e = answer-day (now (s .args .day)) (now (s .args .batch)) (length (now (s .args .memory))) _ (sym (c .before .before .before .check-day .ensures) ∙ c .before .check .given .1) in
+    (e, memory-of (now (s .args .day)) (now (s .args .batch)) (now (s .args .memory)) _ e)
+
+enum-told : tie.Need-enum-told
+enum-told c = search needs
+
+day-fine : (c : tie.After-enum-told) → dayCheck (now (c .before .before .before .before .before .before .args .day)) ≡ Passed
+day-fine c = sym (c .before .before .check-day .ensures) ∙ c .enum-told .given .1
+
+check-batch-requires : tie.Need-check-batch-requires
+check-batch-requires c κs = search needs
+
+enum-known-check-2 : tie.Need-enum-known-check-2
+enum-known-check-2 c = search needs
+
+returns-2 : tie.Need-returns-2
+returns-2 c =
+    let s = c .before .before .before .before .before .before .before .before .before .before in
+    let e = answer-batch (now (s .args .day)) (now (s .args .batch)) (length (now (s .args .memory))) _ (day-fine (c .before .before .before .before)) (sym (c .before .before .before .check-batch .ensures) ∙ c .before .check2 .given .1) in
+    (e, memory-of (now (s .args .day)) (now (s .args .batch)) (now (s .args .memory)) _ e)
+
+enum-told-2 : tie.Need-enum-told-2
+enum-told-2 c = search needs
+
+batch-fine : (c : tie.After-enum-told2) → batchCheck (now (c .before .before .before .before .before .before .before .before .before .args .day)) (now (c .before .before .before .before .before .before .before .before .before .args .batch)) ≡ Passed
+batch-fine c = sym (c .before .before .check-batch .ensures) ∙ c .enum-told2 .given .1
+
+report-checked-requires : tie.Need-report-checked-requires
+report-checked-requires c κs = (day-fine (c .before .before .before .before), batch-fine (c .before))
+
+same-length : tie.Need-same-length
+same-length c = search needs
+
+returns-3 : tie.Need-returns-3
+returns-3 c =
+    let s = c .before .before .before .before .before .before .before .before .before .before .before .before .before in
+    let r = c .before .before .report-checked in
+    let e = r .ensures .0 ∙ answer-checked (now (s .args .day)) (now (s .args .batch)) (length (now (s .args .memory))) (day-fine (c .before .before .before .before .before .before .before)) (batch-fine (c .before .before .before .before)) in
+    (e, r .ensures .1 ∙ memory-of (now (s .args .day)) (now (s .args .batch)) (now (s .args .memory)) (r .result) e)
+
+pub report-spec : {M : Type 1} → statement M
+report-spec =
+    tie.close
+    (tie.spec
+    check-day-requires
+    enum-known-check
+    returns
+    enum-told
+    check-batch-requires
+    enum-known-check-2
+    returns-2
+    enum-told-2
+    report-checked-requires
+    same-length
+    returns-3)

@@ -1,0 +1,15 @@
+use borrow.Author.Needs.{needs}
+use native.Mathlib.Omega.{arith}
+use mathlib.Core.Path.{refl}
+use lib.Count.{ones-le}
+use Rattle.report.proofs.whole.line_count.Statement.{statement}
+use Rattle.report.proofs.whole.line_count.Tie as tie
+
+add-result : tie.Need-add-result
+add-result c = record { fits = omega (arith, ones-le 29 (c .args .ordinary) (c .pre .0), ones-le 29 (c .args .fail) (c .pre .1)) }
+
+returns : tie.Need-returns
+returns c = (refl, omega (arith, ones-le 29 (c .args .ordinary) (c .pre .0), ones-le 29 (c .args .fail) (c .pre .1)))
+
+pub line-count-spec : {M : Type 1} → statement M
+line-count-spec = tie.close (tie.spec add-result returns)

@@ -1,0 +1,104 @@
+use borrow.Author.Needs.{needs}
+use native.Mathlib.Omega.{arith}
+use mathlib.Core.Path.{_≡_, refl, sym, ap, _∙_}
+use mathlib.Core.List.{List, [], _∷_, _++_}
+use Prim.Native.Nat.{ℕ, _+_, _*_, _^_, _≤_, _<_}
+use lib.Count.{ones, ones-le}
+use lib.IntN.{ℤ, pos, _+ℤ_}
+use lib.ListN.{length, length-append}
+use denote.Ref.{now}
+use mir.Syntax.{w64}
+use mir.Val.{toZ, ofZ}
+use Rattle.numbers.specs.Abs.{back, told, fits-by}
+use Rattle.numbers.specs.Put.{put, put-front, put-put}
+use Rattle.model.specs.Words.{word}
+use Rattle.model.specs.Report.{wordsOfAmounts, bookLines, totals, reportWords, wordsNeeded}
+use Rattle.model.specs.Steps.Lines.{total}
+use Rattle.model.proofs.Bounds.{total-small, account-small}
+use Rattle.model.proofs.Length.{report-length}
+use Rattle.model.proofs.Read.{map-small}
+use Rattle.lines.specs.Amounts.{Small, words-length}
+use Rattle.classes.specs.Tables.{entry}
+use borrow.Author.Tests.{le-leb, lt-leb}
+use lib.ListN.{drop}
+use Rattle.model.specs.Calls.{roomAnswer, written}
+use Rattle.report.specs.Whole.{needed-is}
+use Rattle.report.proofs.whole.report_accepted.Statement.{statement}
+use Rattle.report.proofs.whole.report_accepted.Tie as tie
+
+book-map-requires : tie.Need-book-map-requires
+book-map-requires c κs = search needs
+
+book-map-requires-2 : tie.Need-book-map-requires-2
+book-map-requires-2 c κs = search needs
+
+line-count-requires : tie.Need-line-count-requires
+line-count-requires c κs = search needs
+
+index-requires : tie.Need-index-requires
+index-requires c κs = search needs
+
+mul-needed : tie.Need-mul-needed
+mul-needed c = search needs
+
+add-needed : tie.Need-add-needed
+add-needed c = search needs
+
+module _ (c : tie.After-index) where
+  abbrev s : tie.Start
+  s = c .before .before .before .before .before .before
+
+  abbrev d : List ℕ
+  d = now (s .args .day)
+
+  abbrev n : ℕ → ℤ
+  n = entry (now (s .args .nets))
+
+  abbrev v : ℕ → ℤ
+  v = entry (now (s .args .dvps))
+
+  abbrev words : ℕ
+  words = 13 + 19 * c .index .result
+
+  -- what is asked for
+  needed : words ≡ wordsNeeded d n v
+  needed =
+      ap (λ (x : ℕ). 13 + 19 * x) (c .index .ensures)
+      ∙ needed-is d n v (c .before .line-count .result) (c .before .before .before .book-map .result) (c .before .before .book-map2 .result) (c .before .line-count .ensures .0) (c .before .before .before .book-map .ensures .0) (c .before .before .book-map2 .ensures .0)
+
+returns : tie.Need-returns
+returns c = (rw (← needed (c .before), lt-leb (words (c .before)) (length (now (s (c .before) .args .memory))) (c .if1 .taken)), refl)
+
+write-report-requires : tie.Need-write-report-requires
+write-report-requires c κs =
+    let a = c .before .before in
+    let p = s a .pre in
+    (p .0, (p .1 .0, (p .1 .1, (a .before .before .before .book-map .ensures .0, (a .before .before .book-map2 .ensures .0, (a .before .line-count .ensures .0, omega (arith, a .index .ensures, c .before .if1 .left)))))))
+
+same-length : tie.Need-same-length
+same-length c = search needs
+
+returns-2 : tie.Need-returns-2
+returns-2 c =
+    let a = c .before .before .before .before .before in
+    let m = now (s a .args .memory) in
+    let h : words a ≤ length m = c .before .before .before .before .if1 .left in (
+      rw (← needed a, le-leb (words a) (length m) h),
+      c .before .before .write-report .ensures ∙ put-front (reportWords (d a) (n a) (v a)) m
+          ∙ ap (λ (x : ℕ). reportWords (d a) (n a) (v a) ++ drop x m) (report-length (d a) (n a) (v a) ∙ sym (needed a)),
+    )
+
+pub report-accepted-spec : {M : Type 1} → statement M
+report-accepted-spec =
+    tie.close
+    (tie.spec
+    book-map-requires
+    book-map-requires-2
+    line-count-requires
+    index-requires
+    mul-needed
+    add-needed
+    returns
+    write-report-requires
+    same-length
+    returns-2)

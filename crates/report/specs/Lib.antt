@@ -1,0 +1,4 @@
+pub mod Maps
+pub mod Book
+pub mod Whole
+pub mod Calls

@@ -1,0 +1,37 @@
+// The map of a book: bit g set if group g has a line.
+ghost use mathlib.Core.Path.{_≡_};
+ghost use mathlib.Core.Bool.{cond};
+ghost use Prim.Native.Nat.{_+_, _^_, _<_};
+ghost use Rattle.model.specs.Report.{bookMap};
+ghost use Rattle.classes.specs.Starts.{startTable};
+ghost use Rattle.classes.specs.Tables.{entry};
+ghost use Rattle.model.proofs.Accepted.{DayRows};
+use margin::presence::has_line;
+
+// The map with bit g of value `bit`, if it is set.
+fn with_bit(map: u32, bit: u32, set: bool) -> u32
+    requires { ⌜ (map < 2 ^ 29) × (bit < 2 ^ 29) ⌝ }
+    ensures { λ r. ⌜ r ≡ map + cond set bit 0 ⌝ }
+{
+    if set {
+        return map + bit;
+    }
+    map
+}
+
+pub fn book_map(day: &[u32], starts: &[usize; 65], nets: &[i64], dvps: &[i64], book: usize) -> u32
+    requires { ⌜ DayRows (now day) ⌝ }
+    requires { ⌜ book < 2 ⌝ }
+    requires { ⌜ now starts ≡ startTable (now day) ⌝ }
+    ensures { λ r. ⌜ (r ≡ bookMap (now (day .entry)) (entry (now (nets .entry))) (entry (now (dvps .entry))) book) × (r < 2 ^ 29) ⌝ }
+{
+    let mut map: u32 = 0;
+    let mut bit: u32 = 1;
+    let mut g: usize = 0;
+    while g < 29 {
+        map = with_bit(map, bit, has_line(day, starts, nets, dvps, book, g));
+        bit = bit * 2;
+        g = g + 1;
+    }
+    map
+}

@@ -1,0 +1,77 @@
+// Step 7: minimum margin of a class.
+ghost use mathlib.Core.Path.{_≡_};
+ghost use Prim.Native.Nat.{_≤_, _<_};
+ghost use lib.IntN.{pos, natAbs, _*ℤ_};
+ghost use Rattle.numbers.specs.Extremes.{absZ};
+ghost use Rattle.numbers.specs.Table.{tabulate};
+ghost use Rattle.model.specs.Steps.Minimum.{minimumRate, typeNet, minimum as minimumOf};
+ghost use Rattle.classes.specs.Tables.{entry, Given};
+ghost use Rattle.classes.specs.Range.{Range};
+use classes::fields;
+
+// The open nets of the class summed within each type, by type, in one pass.
+fn type_nets(day: &[u32], nets: &[i64], book: usize, c: usize, a: usize, b: usize) -> [i64; 16]
+    requires { ⌜ Given (now day) (now nets) ⌝ }
+    requires { ⌜ book < 2 ⌝ }
+    requires { ⌜ Range (now day) c a b ⌝ }
+    ensures { λ r. ⌜ r ≡ tabulate 16 (typeNet (now (day .entry)) (entry (now (nets .entry))) book c) ⌝ }
+{
+    let mut sums = [0i64; 16];
+    let mut s = a;
+    while s < b {
+        let kind = fields::index(fields::series_type(day, s));
+        let was = sums[kind];
+        sums[kind] = amounts::add(was, fields::position_amount(nets, book, 0, s));
+        s = s + 1;
+    }
+    sums
+}
+
+// The rate of a type: calls and puts both have the options rate.
+fn minimum_rate(day: &[u32], c: usize, kind: usize) -> u32
+    requires { ⌜ c < 64 ⌝ }
+    ensures { λ r. ⌜ r ≡ minimumRate (now (day .entry)) c kind ⌝ }
+{
+    if kind == 1 {
+        return fields::class_field(day, c, 5);
+    }
+    if kind == 2 {
+        return fields::class_field(day, c, 4);
+    }
+    if kind == 3 {
+        return fields::class_field(day, c, 4);
+    }
+    if kind == 4 {
+        return fields::class_field(day, c, 6);
+    }
+    if kind == 5 {
+        return fields::class_field(day, c, 7);
+    }
+    fields::class_field(day, c, 8)
+}
+
+// The absolute value of a type's sum times its rate.
+fn type_minimum(net: i64, rate: u32) -> i64
+    requires { ⌜ (natAbs net ≤ 2560000000) × (rate ≤ 500000000) ⌝ }
+    ensures { λ r. ⌜ r ≡ absZ net *ℤ pos rate ⌝ }
+{
+    amounts::mul(amounts::size(net), amounts::signed(rate))
+}
+
+// Over types 1 to 6.
+pub fn minimum(day: &[u32], nets: &[i64], book: usize, c: usize, a: usize, b: usize) -> i64
+    requires { ⌜ Given (now day) (now nets) ⌝ }
+    requires { ⌜ book < 2 ⌝ }
+    requires { ⌜ Range (now day) c a b ⌝ }
+    ensures { λ r. ⌜ r ≡ minimumOf (now (day .entry)) (entry (now (nets .entry))) book c ⌝ }
+{
+    let sums = type_nets(day, nets, book, c, a, b);
+    let mut sum: i64 = 0;
+    let mut i: usize = 0;
+    while i < 6 {
+        let net = sums[i + 1];
+        sum = amounts::add(sum, type_minimum(net, minimum_rate(day, c, i + 1)));
+        i = i + 1;
+    }
+    sum
+}
