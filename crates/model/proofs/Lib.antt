@@ -30,3 +30,4 @@ pub mod RuledOut
 pub mod Corollaries
 pub mod Often
 pub mod Batches
+pub mod Places

@@ -4,7 +4,7 @@ use mathlib.Core.List.{List, [], _∷_, _++_}
 use Prim.Native.Nat.{ℕ, zero, suc, _+_, _*_, _/_, _%_, _^_}
 use lib.Dec.{ltb, eqb}
 use lib.IntN.{ℤ, pos, negsuc}
-use lib.ListN.{getD}
+use lib.ListN.{getD, replicate}
 use Rattle.model.specs.declared.Answer.{Answer}
 use Rattle.model.specs.declared.Answer.the-variants.{Report, Refused}
 use Rattle.model.specs.declared.Check.the-variants.{Bytes}
@@ -13,7 +13,7 @@ use Rattle.model.specs.declared.Verdict.{Verdict}
 use Rattle.model.specs.Words.{payload, bits}
 use Rattle.model.specs.Answers.{numberOf, placeOf}
 use Rattle.model.specs.Rows.{_orElse_, plainRow}
-use Rattle.model.specs.Calls.{answer, answerOf, report}
+use Rattle.model.specs.Calls.{answer, answerOf, memoryAfter}
 use Rattle.model.specs.Bytes.{wordsOf, row1, row2}
 use Rattle.model.specs.Reading.{countIn, amountIn}
 
@@ -96,6 +96,7 @@ unfoldable pub filesCheck : Bool → List ℕ → Bool → List ℕ → Verdict
 filesCheck dayOpened day batchOpened batch =
     plainRow (Bytes DayFile) (not dayOpened || row1 day) orElse plainRow (Bytes BatchFile) (not batchOpened || row2 batch)
 
+-- what it prints: the answer, read from its memory of zeros after the call over words
 unfoldable pub programText : Bool → List ℕ → Bool → List ℕ → List ℕ
 programText dayOpened day batchOpened batch =
-    printed (answerOf (filesCheck dayOpened day batchOpened batch) (answer (wordsOf day) (wordsOf batch) 1115)) (report (wordsOf day) (wordsOf batch))
+    printed (answerOf (filesCheck dayOpened day batchOpened batch) (answer (wordsOf day) (wordsOf batch) 1115)) (memoryAfter (wordsOf day) (wordsOf batch) (replicate 1115 0))

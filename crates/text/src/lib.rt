@@ -1,3 +1,3 @@
 // The text output library: the text of a report and of a refusal, written into a lent buffer.
-mod fields;
-mod lines;
+pub mod fields;
+pub mod lines;

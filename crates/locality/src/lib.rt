@@ -1,0 +1,49 @@
+// Demand 3 of the code: two reports with one day file, of two batches that are edits or reorderings.
+ghost use Rattle.locality.specs.Edits.{LocalEdit, LocalByteEdit, SameOrder, SameByteOrder};
+use model::Answer;
+
+// Two reports over words: an edit in one group of one book changes its line alone.
+pub fn report_edits(day: &[u32], first: &[u32], second: &[u32], a: &mut [u32], b: &mut [u32])
+    ensures { λ _. ⌜ LocalEdit (now (day .entry)) (now (first .entry)) (now (second .entry)) (now (a .entry)) (now (b .entry)) (now (a .exit)) (now (b .exit)) ⌝ }
+{
+    report::report(day, first, a);
+    report::report(day, second, b);
+}
+
+// Two reports over bytes: the same.
+pub fn byte_edits(day: &[u8], first: &[u8], second: &[u8], a: &mut [u8], b: &mut [u8])
+    ensures { λ _. ⌜ LocalByteEdit (now (day .entry)) (now (first .entry)) (now (second .entry)) (now (a .entry)) (now (b .entry)) (now (a .exit)) (now (b .exit)) ⌝ }
+{
+    mars::byte_report(day, first, a);
+    mars::byte_report(day, second, b);
+}
+
+// The answers of two calls.
+pub struct Answers {
+    pub one: Answer,
+    pub two: Answer,
+}
+
+// Two reports over words: the order of the records changes nothing.
+pub fn report_orders(
+    day: &[u32],
+    first: &[u32],
+    second: &[u32],
+    a: &mut [u32],
+    b: &mut [u32],
+) -> Answers
+    ensures { λ r. ⌜ SameOrder (now (day .entry)) (now (first .entry)) (now (second .entry)) (now (a .entry)) (now (b .entry)) (now (a .exit)) (now (b .exit)) (r .one) (r .two) ⌝ }
+{
+    let one = report::report(day, first, a);
+    let two = report::report(day, second, b);
+    Answers { one, two }
+}
+
+// Two reports over bytes: the same.
+pub fn byte_orders(day: &[u8], first: &[u8], second: &[u8], a: &mut [u8], b: &mut [u8]) -> Answers
+    ensures { λ r. ⌜ SameByteOrder (now (day .entry)) (now (first .entry)) (now (second .entry)) (now (a .entry)) (now (b .entry)) (now (a .exit)) (now (b .exit)) (r .one) (r .two) ⌝ }
+{
+    let one = mars::byte_report(day, first, a);
+    let two = mars::byte_report(day, second, b);
+    Answers { one, two }
+}

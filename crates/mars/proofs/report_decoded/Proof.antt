@@ -1,0 +1,87 @@
+use native.Mathlib.Omega.{arith}
+use mathlib.Core.Path.{_≡_, sym, ap, _∙_}
+use mathlib.Core.List.{List}
+use Prim.Native.Nat.{ℕ, _/_, _≤_}
+use lib.ListN.{length, take}
+use lib.Seq.{length-take-le}
+use denote.Ref.{now}
+use Rattle.model.specs.Bytes.{wordsOf, writtenBytes}
+use Rattle.model.specs.Calls.{answer, report}
+use Rattle.model.proofs.ByteWords.{words-length}
+use Rattle.mars.specs.Room.{roomOf, room-most, put-take}
+use borrow.Author.Needs.{needs}
+use Rattle.mars.proofs.report_decoded.Statement.{statement}
+use Rattle.mars.proofs.report_decoded.Tie as tie
+
+decode-requires : tie.Need-decode-requires
+decode-requires c κs = search needs
+
+decode-requires-2 : tie.Need-decode-requires-2
+decode-requires-2 c κs = search needs
+
+room-requires : tie.Need-room-requires
+room-requires c κs = search needs
+
+slice-reshare-prefix-report-words : tie.Need-slice-reshare-prefix-report-words
+slice-reshare-prefix-report-words c = search needs
+
+slice-aggregate-report-words : tie.Need-slice-aggregate-report-words
+slice-aggregate-report-words c = let s = c .before .before .before .before .before .before .before .before .before .before .before .before .before .before .before .before in sym (length-take-le (length (now (s .args .day)) / 4) (c .before .before .before .before .before .before .before .before .decode .last .1 .0) (omega (arith, c .before .before .before .before .before .before .before .before .decode .kept .1 .0, s .pre .0 .0, s .pre .1 .0)))
+
+slice-reshare-prefix-report-words-2 : tie.Need-slice-reshare-prefix-report-words-2
+slice-reshare-prefix-report-words-2 c = search needs
+
+slice-aggregate-report-words-2 : tie.Need-slice-aggregate-report-words-2
+slice-aggregate-report-words-2 c = let s = c .before .before .before .before .before .before .before .before .before .before .before .before .before .before .before .before .before in sym (length-take-le (length (now (s .args .batch)) / 4) (c .before .before .before .before .before .decode2 .last .1 .0) (omega (arith, c .before .before .before .before .before .decode2 .kept .1 .0, s .pre .0 .1, s .pre .1 .1)))
+
+slice-relend-prefix-report-words : tie.Need-slice-relend-prefix-report-words
+slice-relend-prefix-report-words c = let s = c .before .before .before .before .before .before .before .before .before .before .before .before .before .before .before .before .before in omega (arith, c .before .before .room .ensures, room-most (length (now (s .args .memory))), s .pre .1 .2)
+
+slice-aggregate-report-words-3 : tie.Need-slice-aggregate-report-words-3
+slice-aggregate-report-words-3 c = let s = c .before .before .before .before .before .before .before .before .before .before .before .before .before .before .before .before .before .before in sym (length-take-le (c .before .before .before .room .result) (now (s .args .words)) (omega (arith, c .before .before .before .room .ensures, room-most (length (now (s .args .memory))), s .pre .1 .2)))
+
+report-words-requires : tie.Need-report-words-requires
+report-words-requires c κs = let s = c .before .before .before .before .before .before .before .before .before .before .before .before .before .before .before .before .before .before .before in length-take-le (c .before .before .before .before .room .result) (now (s .args .words)) (omega (arith, c .before .before .before .before .room .ensures, room-most (length (now (s .args .memory))), s .pre .1 .2)) ∙ c .before .before .before .before .room .ensures
+
+same-length : tie.Need-same-length
+same-length c = search needs
+
+same-length-2 : tie.Need-same-length-2
+same-length-2 c = search needs
+
+same-length-3 : tie.Need-same-length-3
+same-length-3 c = search needs
+
+same-length-4 : tie.Need-same-length-4
+same-length-4 c = search needs
+
+returns : tie.Need-returns
+returns c =
+    let s = c .before .before .before .before .before .before .before .before .before .before .before .before .before .before .before .before .before .before .before .before .before .before .before .before in
+    let day = now (s .args .day) in
+    let batch = now (s .args .batch) in
+    let m = now (s .args .memory) in
+    let p = ap (take (length day / 4)) (c .before .before .before .before .before .before .before .before .before .before .before .before .before .before .before .before .decode .ensures) ∙ put-take (wordsOf day) (now (s .args .file)) (length day / 4) (words-length day) in
+    let q = ap (take (length batch / 4)) (c .before .before .before .before .before .before .before .before .before .before .before .before .decode2 .ensures) ∙ put-take (wordsOf batch) (now (s .args .positions)) (length batch / 4) (words-length batch) in
+    let r = c .before .before .before .before .report-words in
+    (r .ensures .0 ∙ (λ i. answer (p i) (q i) (length m / 4)), r .ensures .1 ∙ (λ i. writtenBytes (r .result) (report (p i) (q i)) m))
+
+pub report-decoded-spec : {M : Type 1} → statement M
+report-decoded-spec =
+    tie.close
+    (tie.spec
+    decode-requires
+    decode-requires-2
+    room-requires
+    slice-reshare-prefix-report-words
+    slice-aggregate-report-words
+    slice-reshare-prefix-report-words-2
+    slice-aggregate-report-words-2
+    slice-relend-prefix-report-words
+    slice-aggregate-report-words-3
+    report-words-requires
+    same-length
+    same-length-2
+    same-length-3
+    same-length-4
+    returns)

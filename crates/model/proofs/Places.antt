@@ -1,0 +1,110 @@
+-- The value of every answer, a length or a place, is below 2 ^ 32.
+use mathlib.Core.Path.{_≡_, refl, sym, ap, _∙_}
+use mathlib.Core.Bool.{Bool, true, false, cond}
+use mathlib.Core.List.{List}
+use Prim.Native.Nat.{ℕ, _+_, _*_, _/_, _%_, _^_, _≤_, _<_}
+use native.Mathlib.Omega.{arith}
+use lib.Dec.{leb}
+use lib.ListN.{length}
+use Rattle.numbers.specs.declared.Found.{Found}
+use Rattle.numbers.specs.declared.Found.the-variants.{At, Nothing}
+use Rattle.numbers.specs.Scan.{firstBad, first-at}
+use Rattle.model.specs.declared.Answer.{Answer}
+use Rattle.model.specs.declared.Check.{Check}
+use Rattle.model.specs.declared.Check.the-variants.{Bytes, DayHeader, DayLength, DayWords, Classes, Series, BatchHeader, BatchLength, BatchWords, Positions, Netting}
+use Rattle.model.specs.declared.BytesFault.the-variants.{DayFile, BatchFile}
+use Rattle.model.specs.declared.DayHeaderFault.the-variants.{BadDayHeader}
+use Rattle.model.specs.declared.DayLengthFault.the-variants.{BadDayLength}
+use Rattle.model.specs.declared.DayWordsFault.the-variants.{BadDayWord}
+use Rattle.model.specs.declared.ClassFault.the-variants.{ClassOrder, OffsetDiffers}
+use Rattle.model.specs.declared.SeriesFault.the-variants.{ClassAbsent, SeriesOrder, BadType}
+use Rattle.model.specs.declared.BatchHeaderFault.the-variants.{BadBatchHeader}
+use Rattle.model.specs.declared.BatchLengthFault.the-variants.{BadBatchLength}
+use Rattle.model.specs.declared.BatchWordsFault.the-variants.{BadBatchWord}
+use Rattle.model.specs.declared.PositionFault.the-variants.{SeriesAbsent, ExercisedNonOption, FailNonSecurity, DvpNonSecurity}
+use Rattle.model.specs.declared.NettingFault.the-variants.{NetTooLarge}
+use Rattle.model.specs.declared.ReportFault.the-variants.{TooShort}
+use Rattle.model.specs.declared.Verdict.{Verdict}
+use Rattle.model.specs.declared.Verdict.the-variants.{Passed, Failed}
+use Rattle.model.specs.Answers.{placeOf, valueOf}
+use Rattle.model.specs.Rows.{_orElse_, plainRow, foundRow, recordRow}
+use Rattle.model.specs.DayFile.{classCount, seriesCount}
+use Rattle.model.specs.DayChecks.{row10, row11, row12, row13, row14, row15, row16, row17, dayCheck}
+use Rattle.model.specs.Batch.{recordCount}
+use Rattle.model.specs.BatchChecks.{row20, row21, row22, row23, row24, row25, row26, batchCheck}
+use Rattle.model.specs.Netting.{net, dvp, row30, nettingCheck}
+use Rattle.model.specs.Report.{wordsNeeded}
+use Rattle.model.specs.Calls.{verdict, answer, answerOf, roomAnswer, needed}
+use Rattle.model.specs.Bytes.{wordsOf, row1, row2, bytesCheck, byteAnswer}
+use Rattle.model.proofs.Read.{count-small}
+
+abbrev placeIn : Verdict → ℕ
+placeIn Passed = 0
+placeIn (Failed k) = placeOf k
+
+record Low (v : Verdict) : Type 0 where
+  low : placeIn v < 2 ^ 32
+
+either : (v w : Verdict) → Low v → Low w → Low (v orElse w)
+either Passed w p q = q
+either (Failed k) w p q = p
+
+plain-low : (k : ℕ → Check) (b : Bool) → placeOf (k 0) ≡ 0 → Low (plainRow k b)
+plain-low k true e = record { low = omega (arith, e) }
+plain-low k false e = record { low = omega arith }
+
+record-low : (k : ℕ → Check) (t : ℕ → Bool) (n : ℕ) → ((i : ℕ) → placeOf (k i) ≡ i) → n < 2 ^ 32 → Low (recordRow k t n)
+record-low k t n e h = by (firstBad t n) refl
+  where
+    by : (f : Found) → firstBad t n ≡ f → Low (foundRow k f)
+    by (At i) q = record { low = omega (arith, e i, first-at t n i q .0) }
+    by Nothing q = record { low = omega arith }
+
+day-low : (d : List ℕ) → Low (dayCheck d)
+unfolding dayCheck
+day-low d =
+    either _ _ (plain-low (DayHeader BadDayHeader) (row10 d) refl)
+    (either _ _ (plain-low (DayLength BadDayLength) (row11 d) refl)
+    (either _ _ (record-low (DayWords BadDayWord) (row12 d) (classCount d + seriesCount d) (λ i. refl) (omega arith))
+    (either _ _ (record-low (Classes ClassOrder) (row13 d) (classCount d) (λ i. refl) (omega arith))
+    (either _ _ (record-low (Classes OffsetDiffers) (row14 d) (classCount d) (λ i. refl) (omega arith))
+    (either _ _ (record-low (Series ClassAbsent) (row15 d) (seriesCount d) (λ i. refl) (omega arith))
+    (either _ _ (record-low (Series SeriesOrder) (row16 d) (seriesCount d) (λ i. refl) (omega arith))
+    (record-low (Series BadType) (row17 d) (seriesCount d) (λ i. refl) (omega arith))))))))
+
+batch-low : (d b : List ℕ) → Low (batchCheck d b)
+unfolding batchCheck
+batch-low d b =
+    either _ _ (plain-low (BatchHeader BadBatchHeader) (row20 b) refl)
+    (either _ _ (plain-low (BatchLength BadBatchLength) (row21 b) refl)
+    (either _ _ (record-low (BatchWords BadBatchWord) (row22 b) (recordCount b) (λ i. refl) (omega arith))
+    (either _ _ (record-low (Positions SeriesAbsent) (row23 d b) (recordCount b) (λ i. refl) (omega arith))
+    (either _ _ (record-low (Positions ExercisedNonOption) (row24 d b) (recordCount b) (λ i. refl) (omega arith))
+    (either _ _ (record-low (Positions FailNonSecurity) (row25 d b) (recordCount b) (λ i. refl) (omega arith))
+    (record-low (Positions DvpNonSecurity) (row26 d b) (recordCount b) (λ i. refl) (omega arith)))))))
+
+verdict-low : (d b : List ℕ) → Low (verdict d b)
+unfolding verdict nettingCheck
+verdict-low d b =
+    either _ _ (day-low d) (either _ _ (batch-low d b) (record-low (Netting NetTooLarge) (row30 d b) (recordCount b) (λ i. refl) (omega arith)))
+
+room-low : (n room : ℕ) → n < 2 ^ 32 → valueOf (roomAnswer n room) < 2 ^ 32
+room-low n room h = by (leb n room)
+  where
+    by : (t : Bool) → valueOf (cond t (Answer.Report n) (Answer.Refused (Check.Report TooShort n))) < 2 ^ 32
+    by true = h
+    by false = h
+
+answer-low : (v : Verdict) (a : Answer) → Low v → valueOf a < 2 ^ 32 → valueOf (answerOf v a) < 2 ^ 32
+answer-low Passed a p q = q
+answer-low (Failed k) a p q = p .low
+
+pub value-small : (d b : List ℕ) (room : ℕ) → valueOf (answer d b room) < 2 ^ 32
+unfolding answer wordsNeeded
+value-small d b room =
+    answer-low (verdict d b) (roomAnswer (needed d b) room) (verdict-low d b) (room-low (needed d b) room (omega (arith, count-small d (net b) (dvp b))))
+
+pub byte-value-small : (day batch : List ℕ) (room : ℕ) → valueOf (byteAnswer day batch room) < 2 ^ 32
+unfolding byteAnswer bytesCheck
+byte-value-small day batch room =
+    answer-low (bytesCheck day batch) (answer (wordsOf day) (wordsOf batch) (room / 4)) (either _ _ (plain-low (Bytes DayFile) (row1 day) refl) (plain-low (Bytes BatchFile) (row2 batch) refl)) (value-small (wordsOf day) (wordsOf batch) (room / 4))

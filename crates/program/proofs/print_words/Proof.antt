@@ -1,0 +1,44 @@
+use mathlib.Core.Path.{_≡_, ap, _∙_}
+use mathlib.Core.List.{List}
+use Prim.Native.Nat.{ℕ, _+_}
+use lib.ListN.{length}
+use denote.Ref.{now}
+use Rattle.numbers.specs.Put.{put}
+use Rattle.model.specs.Calls.{answer, memoryAfter}
+use Rattle.model.specs.Printed.{printed}
+use Rattle.program.specs.Files.{room-of, words-shown, text-fits}
+use borrow.Author.Needs.{needs}
+use Rattle.program.proofs.print_words.Statement.{statement}
+use Rattle.program.proofs.print_words.Tie as tie
+
+report-requires : tie.Need-report-requires
+report-requires c κs = search needs
+
+write-answer-requires : tie.Need-write-answer-requires
+write-answer-requires c κs =
+    let s = c .before .before .before .before .before .before .before .before .before .before in
+    let r = c .before .before .before .before .report in
+    (s .pre, room-of (now (s .args .day)) (now (s .args .batch)) (now (s .args .memory)) (r .result) (r .last .1 .1 .0) (r .ensures .0) (r .ensures .1))
+
+same-length : tie.Need-same-length
+same-length c = search needs
+
+same-length-2 : tie.Need-same-length-2
+same-length-2 c = search needs
+
+returns : tie.Need-returns
+returns c =
+    let s = c .before .before .before .before .before .before .before .before .before .before .before .before .before in
+    let r = c .before .before .before .before .before .before .before .report in
+    let w = c .before .before .write-answer in
+    let d = now (s .args .day) in
+    let b = now (s .args .batch) in
+    let m = now (s .args .memory) in
+    let t = words-shown d b m (r .result) (r .last .1 .1 .0) (r .ensures .0) (r .ensures .1) in
+    let n = w .ensures .0 ∙ ap (λ (x : List ℕ). 0 + length x) t in
+    let o = w .ensures .1 ∙ ap (λ (x : List ℕ). put 0 x (now (s .args .out))) t in
+    ((n, o), text-fits (printed (answer d b (length m)) (memoryAfter d b m)) (now (s .args .out)) (w .last .1 .1 .0) (w .result) n o)
+
+pub print-words-spec : {M : Type 1} → statement M
+print-words-spec =
+    tie.close (tie.spec report-requires write-answer-requires same-length same-length-2 returns)

@@ -1,0 +1,131 @@
+-- The program's answer for its files, and that what it prints from its memory is the model's text.
+use mathlib.Core.Path.{_≡_, refl, sym, ap, _∙_}
+use mathlib.Core.Bool.{Bool, true, false, not, _||_}
+use mathlib.Core.List.{List, [], _∷_, _++_}
+use Prim.Native.Nat.{ℕ, zero, suc, _+_, _*_, _/_, _≤_}
+use native.Mathlib.Omega.{arith}
+use lib.ListN.{length, drop, replicate, length-replicate}
+use Rattle.model.specs.declared.Answer.{Answer}
+use Rattle.model.specs.declared.Answer.the-variants.{Report, Refused}
+use Rattle.model.specs.declared.Check.the-variants.{Bytes}
+use Rattle.model.specs.declared.BytesFault.the-variants.{DayFile, BatchFile}
+use Rattle.model.specs.declared.Verdict.{Verdict}
+use Rattle.model.specs.declared.Verdict.the-variants.{Passed, Failed}
+use Rattle.model.specs.Netting.{net, dvp}
+use Rattle.model.specs.Calls.{verdict, answer, answerOf, report, memoryAfter}
+use Rattle.model.specs.Bytes.{wordsOf, bytesOf, badBytes, row1, row2, bytesCheck, byteAnswer, bytesAfter, writtenBytes}
+use Rattle.model.specs.Printed.{filesCheck, programText, printed}
+use Rattle.model.proofs.ByteWords.{words-length, words-bytes, words-drop, report-accepted}
+use Rattle.model.proofs.Fit.{report-fits}
+use Rattle.model.proofs.Read.{count-read, count-small}
+use mathlib.Core.List.{append-nil}
+use lib.ListN.{length-append}
+use lib.Seq.{drop-length, length-take-le}
+use Rattle.io.specs.Counts.{Counts}
+use Rattle.numbers.specs.Put.{put, put-front}
+use Rattle.text.specs.Room.{Room}
+
+abbrev pub filesAnswer : Bool → List ℕ → Bool → List ℕ → Answer
+filesAnswer first day second batch = answerOf (filesCheck first day second batch) (answer (wordsOf day) (wordsOf batch) 1115)
+
+-- ---- the answer by cases
+
+module _ (day batch : List ℕ) where
+  pub unopened-day : (first second : Bool) → not first ≡ true → Refused (Bytes DayFile 0) ≡ filesAnswer first day second batch
+  unfolding filesCheck
+  unopened-day false second e = refl
+  unopened-day true second e = cc
+
+  pub bad-day : (first second : Bool) → not first ≡ false → not second ≡ true → badBytes day 4865 ≡ true → Refused (Bytes DayFile 0) ≡ filesAnswer first day second batch
+  unfolding filesCheck row1
+  bad-day true false o p e = rw e
+  bad-day true true o p e = cc
+  bad-day false second o p e = cc
+
+  pub unopened-batch : (first second : Bool) → not first ≡ false → not second ≡ true → badBytes day 4865 ≡ false → Refused (Bytes BatchFile 0) ≡ filesAnswer first day second batch
+  unfolding filesCheck row1
+  unopened-batch true false o p e = rw e
+  unopened-batch true true o p e = cc
+  unopened-batch false second o p e = cc
+
+  whole-room : byteAnswer day batch 4460 ≡ filesAnswer true day true batch
+  unfolding filesCheck byteAnswer bytesCheck
+  whole-room = refl
+
+  pub opened : (first second : Bool) → not first ≡ false → not second ≡ false → (m : List ℕ) → m ≡ replicate 4460 0 → byteAnswer day batch (length m) ≡ filesAnswer first day second batch
+  opened true true o p m e = ap (byteAnswer day batch) (ap length e ∙ length-replicate {A = ℕ} 4460 0) ∙ whole-room
+  opened true false o p m e = cc
+  opened false second o p m e = cc
+
+  pub opened-bytes : (r : Answer) (m : List ℕ) → m ≡ replicate 4460 0 → r ≡ byteAnswer day batch (length m) → bytesAfter day batch m ≡ writtenBytes r (report (wordsOf day) (wordsOf batch)) (replicate 4460 0)
+  unfolding bytesAfter
+  opened-bytes r m e f = rw (f, e)
+
+-- ---- what is read from the memory
+
+zero-words : (n : ℕ) → wordsOf (replicate (4 * n) 0) ≡ replicate n 0
+unfolding wordsOf
+zero-words zero = refl
+zero-words (suc n) = let e : 4 * suc n ≡ suc (suc (suc (suc (4 * n)))) = omega arith in ap (λ (k : ℕ). wordsOf (replicate k 0)) e ∙ ap (λ (l : List ℕ). 0 ∷ l) (zero-words n)
+
+the-report : (v : Verdict) (a : Answer) (n : ℕ) → answerOf v a ≡ Report n → a ≡ Report n
+the-report Passed a n e = e
+the-report (Failed k) a n e = let z : _≡_ {A = ℕ} 0 1 = cc in absurd (omega arith)
+
+-- the words of a report's bytes over zeros are the memory after the call over words
+after-report : (d b : List ℕ) (n : ℕ) → answer d b 1115 ≡ Report n → wordsOf (bytesOf (report d b) ++ drop (4 * n) (replicate 4460 0)) ≡ report d b ++ drop n (replicate 1115 0)
+unfolding answer
+after-report d b n e =
+    words-bytes (report-fits d b (report-accepted (verdict d b) _ n e)) (drop (4 * n) (replicate 4460 0))
+    ∙ ap (λ (l : List ℕ). report d b ++ l) (words-drop n (replicate 4460 0) ∙ ap (drop n) (zero-words 1115))
+
+-- the memory after a report
+after-written : (d b m : List ℕ) (n : ℕ) → answer d b (length m) ≡ Report n → memoryAfter d b m ≡ report d b ++ drop n m
+unfolding memoryAfter
+after-written d b m n e = rw e
+
+shown : (first : Bool) (day : List ℕ) (second : Bool) (batch : List ℕ) (r : Answer) (w : List ℕ)
+    → r ≡ filesAnswer first day second batch → w ≡ wordsOf (writtenBytes r (report (wordsOf day) (wordsOf batch)) (replicate 4460 0))
+    → (printed r w ≡ programText first day second batch) × Room r w
+unfolding programText
+shown first day second batch (Refused k) w e q =
+    (ap (λ (a : Answer). printed a (memoryAfter (wordsOf day) (wordsOf batch) (replicate 1115 0))) e, tt)
+shown first day second batch (Report n) w e q =
+    let d = wordsOf day in
+    let b = wordsOf batch in
+    let a : answer d b 1115 ≡ Report n = the-report (filesCheck first day second batch) (answer d b 1115) n (sym e) in
+    let z : w ≡ report d b ++ drop n (replicate 1115 0) = q ∙ after-report d b n a in (
+      ap (printed (Report n)) (z ∙ sym (after-written d b (replicate 1115 0) n (ap (answer d b) (length-replicate {A = ℕ} 1115 0) ∙ a))) ∙ ap (λ (x : Answer). printed x (memoryAfter d b (replicate 1115 0))) e,
+      rw z (omega (arith, count-read d (net b) (dvp b) (drop n (replicate 1115 0)), count-small d (net b) (dvp b))),
+    )
+
+-- words of the whole memory replace all words
+replaced : (w l : List ℕ) → length w ≡ length l → put 0 w l ≡ w
+replaced w l e = put-front w l ∙ ap (λ (x : List ℕ). w ++ x) (ap (λ (n : ℕ). drop n l) e ∙ drop-length l) ∙ append-nil w
+
+-- what the words decoded from the memory print
+pub decoded : (first : Bool) (day : List ℕ) (second : Bool) (batch : List ℕ) (r : Answer) (m : List ℕ)
+    → r ≡ filesAnswer first day second batch → m ≡ writtenBytes r (report (wordsOf day) (wordsOf batch)) (replicate 4460 0) → length m ≡ 4460
+    → (l w : List ℕ) → length l ≡ 1115 → w ≡ put 0 (wordsOf m) l → (printed r w ≡ programText first day second batch) × Room r w
+decoded first day second batch r m e p n l w k q =
+    shown first day second batch r w e (q ∙ replaced (wordsOf m) l (omega (arith, words-length m, n, k)) ∙ ap wordsOf p)
+
+pub long : (m l : List ℕ) → length m ≡ length l → l ≡ replicate 4460 0 → length m ≡ 4460
+long m l e f = e ∙ ap length f ∙ length-replicate {A = ℕ} 4460 0
+
+-- text at the front of a buffer is no longer than the buffer
+pub text-fits : (t l m : List ℕ) (n : ℕ) → n ≡ 0 + length t → m ≡ put 0 t l → Counts n m
+text-fits t l m n e p =
+    let q : length m ≡ length t + length (drop (length t) l) = ap length (p ∙ put-front t l) ∙ length-append t (drop (length t) l) in
+    let f : n ≤ length m = omega (arith, e, q) in
+    (f, sym (length-take-le n m f))
+
+-- ---- the call over words
+
+pub room-of : (d b m : List ℕ) (r : Answer) (w : List ℕ) → r ≡ answer d b (length m) → w ≡ memoryAfter d b m → Room r w
+room-of d b m (Refused k) w e q = tt
+room-of d b m (Report n) w e q =
+    rw (q ∙ after-written d b m n (sym e)) (omega (arith, count-read d (net b) (dvp b) (drop n m), count-small d (net b) (dvp b)))
+
+pub words-shown : (d b m : List ℕ) (r : Answer) (w : List ℕ) → r ≡ answer d b (length m) → w ≡ memoryAfter d b m → printed r w ≡ printed (answer d b (length m)) (memoryAfter d b m)
+words-shown d b m r w e q = ap (λ (a : Answer). printed a w) e ∙ ap (printed (answer d b (length m))) q

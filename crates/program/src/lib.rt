@@ -1,0 +1,73 @@
+// What the report program prints for its two files.
+ghost use mathlib.Core.Path.{_≡_};
+ghost use Prim.Native.Nat.{_+_, _≤_};
+ghost use lib.ListN.{length, replicate};
+ghost use Rattle.io.specs.Counts.{Counts};
+ghost use Rattle.numbers.specs.Put.{put};
+ghost use Rattle.model.specs.Bytes.{wordsOf, writtenBytes};
+ghost use Rattle.model.specs.Calls.{answer as answerTo, memoryAfter, report as reportOf};
+ghost use Rattle.model.specs.Printed.{printed, programText};
+ghost use Rattle.program.specs.Files.{filesAnswer};
+use model::Answer;
+use model::BytesFault;
+use model::Check;
+
+// The answer for two files, each opened or not, and the bytes of the report over a memory of zeros.
+fn answer_files(first: bool, day: &[u8], second: bool, batch: &[u8], memory: &mut [u8]) -> Answer
+    requires { ⌜ now memory ≡ replicate 4460 0 ⌝ }
+    ensures { λ r. ⌜ r ≡ filesAnswer first (now (day .entry)) second (now (batch .entry)) ⌝ }
+    ensures { λ r. ⌜ now (memory .exit) ≡ writtenBytes r (reportOf (wordsOf (now (day .entry))) (wordsOf (now (batch .entry)))) (replicate 4460 0) ⌝ }
+{
+    if !first {
+        return Answer::Refused(Check::Bytes(BytesFault::DayFile, 0));
+    }
+    if !second {
+        if mars::bad_bytes(day, 4865) {
+            return Answer::Refused(Check::Bytes(BytesFault::DayFile, 0));
+        }
+        return Answer::Refused(Check::Bytes(BytesFault::BatchFile, 0));
+    }
+    mars::byte_report(day, batch, memory)
+}
+
+// The text, by way of lent memories for the report's bytes and words.
+fn print_through(
+    first: bool,
+    day: &[u8],
+    second: bool,
+    batch: &[u8],
+    memory: &mut [u8],
+    words: &mut [u32],
+    out: &mut [u8],
+) -> usize
+    requires { ⌜ now memory ≡ replicate 4460 0 ⌝ }
+    requires { ⌜ length (now words) ≡ 1115 ⌝ }
+    requires { ⌜ 9090 ≤ length (now out) ⌝ }
+    ensures { λ r. ⌜ (r ≡ 0 + length (programText first (now (day .entry)) second (now (batch .entry)))) × (now (out .exit) ≡ put 0 (programText first (now (day .entry)) second (now (batch .entry))) (now (out .entry))) ⌝ }
+    ensures { λ r. ⌜ Counts r (now (out .exit)) ⌝ }
+{
+    let answer = answer_files(first, day, second, batch, memory);
+    byte_words::decode(memory, words);
+    text::lines::write_answer(answer, words, out)
+}
+
+// The text at the front of the buffer; its length.
+pub fn print_files(first: bool, day: &[u8], second: bool, batch: &[u8], out: &mut [u8]) -> usize
+    requires { ⌜ 9090 ≤ length (now out) ⌝ }
+    ensures { λ r. ⌜ (r ≡ 0 + length (programText first (now (day .entry)) second (now (batch .entry)))) × (now (out .exit) ≡ put 0 (programText first (now (day .entry)) second (now (batch .entry))) (now (out .entry))) ⌝ }
+    ensures { λ r. ⌜ Counts r (now (out .exit)) ⌝ }
+{
+    let mut memory = [0u8; 4460];
+    let mut words = [0u32; 1115];
+    print_through(first, day, second, batch, &mut memory, &mut words, out)
+}
+
+// The same of two files of words and a memory of any length.
+pub fn print_words(day: &[u32], batch: &[u32], memory: &mut [u32], out: &mut [u8]) -> usize
+    requires { ⌜ 9090 ≤ length (now out) ⌝ }
+    ensures { λ r. ⌜ (r ≡ 0 + length (printed (answerTo (now (day .entry)) (now (batch .entry)) (length (now (memory .entry)))) (memoryAfter (now (day .entry)) (now (batch .entry)) (now (memory .entry))))) × (now (out .exit) ≡ put 0 (printed (answerTo (now (day .entry)) (now (batch .entry)) (length (now (memory .entry)))) (memoryAfter (now (day .entry)) (now (batch .entry)) (now (memory .entry)))) (now (out .entry))) ⌝ }
+    ensures { λ r. ⌜ Counts r (now (out .exit)) ⌝ }
+{
+    let answer = report::report(day, batch, memory);
+    text::lines::write_answer(answer, memory, out)
+}

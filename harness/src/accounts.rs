@@ -1,0 +1,376 @@
+//! Random accounts, and accounts damaged so that each row of the table refuses some of them.
+use crate::fields::{self, Class, Record, Series, EQUITY};
+use crate::reckoner::reckon;
+use crate::rng::Rng;
+
+#[derive(Clone, Debug)]
+pub struct Account {
+    pub day: Vec<u32>,
+    pub batch: Vec<u32>,
+}
+
+fn word(kind: u32, payload: u32) -> u32 {
+    kind << 29 | payload
+}
+
+/// How large an account may get.
+#[derive(Clone, Copy)]
+pub struct Size {
+    pub classes: u64,
+    pub series: u64,
+    pub records: u64,
+}
+
+pub const SMALL: Size = Size { classes: 4, series: 12, records: 16 };
+pub const TYPICAL: Size = Size { classes: 8, series: 40, records: 40 };
+pub const LARGEST: Size = Size { classes: 64, series: 256, records: 256 };
+
+fn price(rng: &mut Rng) -> u32 {
+    let limit = rng.pick(&[0, 100, 50_000, 5_000_000, 500_000_000]);
+    if rng.once_in(12) {
+        limit as u32
+    } else {
+        rng.below(limit + 1) as u32
+    }
+}
+
+/// A price near another, as theoretical and projected prices are.
+fn near(rng: &mut Rng, base: u32) -> u32 {
+    if rng.once_in(10) {
+        return price(rng);
+    }
+    let span = u64::from(base) / 4 + 10;
+    let moved = u64::from(base) + rng.below(2 * span + 1);
+    moved.saturating_sub(span).min(500_000_000) as u32
+}
+
+/// A day file: `classes` and `series` are exact counts (fewer series where keys clash).
+pub fn day_file(rng: &mut Rng, classes: usize, series: usize) -> Vec<u32> {
+    let mut numbers: Vec<u32> = (0..64).collect();
+    while numbers.len() > classes {
+        let i = rng.below(numbers.len() as u64) as usize;
+        numbers.remove(i);
+    }
+    let groups = rng.within(1, 29);
+    let offsets: Vec<u32> =
+        (0..29).map(|_| if rng.once_in(4) { 100 * rng.below(2) as u32 } else { rng.below(101) as u32 }).collect();
+    let mut class_words = Vec::new();
+    let mut underlyings = Vec::new();
+    for &n in &numbers {
+        let group = if rng.once_in(12) { 28 } else { rng.below(groups) as u32 };
+        let underlying = price(rng);
+        underlyings.push(underlying);
+        class_words.push(word(2, group | n << 5));
+        class_words.push(word(3, underlying));
+        for _ in 0..7 {
+            class_words.push(word(3, price(rng)));
+        }
+        class_words.push(word(4, offsets[group as usize]));
+        for _ in 0..10 {
+            class_words.push(word(3, near(rng, underlying)));
+        }
+    }
+    let mut keys = Vec::new();
+    if classes > 0 {
+        for _ in 0..series {
+            let n = rng.pick(&numbers);
+            let t = rng.within(1, 6) as u32;
+            let expiry = if t <= 3 { rng.pick(&[0, 3, 6, 9, 12, 300, 4095]) + rng.below(3) as u32 } else { 0 };
+            let serial = if t >= 4 { rng.below(128) as u32 } else { 0 };
+            let strike = if t == 2 || t == 3 { price(rng) } else { 0 };
+            keys.push((serial | (expiry & 4095) << 7 | t << 19 | n << 23, strike));
+        }
+        keys.sort_unstable();
+        keys.dedup();
+    }
+    let mut out = vec![word(1, classes as u32 | (keys.len() as u32) << 7)];
+    out.extend(class_words);
+    for &(key, strike) in &keys {
+        let closing = price(rng);
+        out.push(word(2, key));
+        out.push(word(4, rng.pick(&[1, 1, 5, 100, 1000, 10_000])));
+        out.push(word(3, strike));
+        out.push(word(3, closing));
+        for _ in 0..10 {
+            out.push(word(3, near(rng, closing)));
+        }
+    }
+    out
+}
+
+fn counts(day: &[u32]) -> (usize, usize) {
+    ((day[0] & 127) as usize, (day[0] >> 7 & 511) as usize)
+}
+
+fn series_at(day: &[u32], s: usize) -> usize {
+    1 + 20 * counts(day).0 + 14 * s
+}
+
+fn type_of(day: &[u32], s: usize) -> u32 {
+    day[series_at(day, s)] >> 19 & 15
+}
+
+pub fn amount_words(negative: bool, size: u64) -> [u32; 3] {
+    [
+        word(5, u32::from(negative) << 28 | (size >> 58) as u32),
+        word(6, (size >> 29 & 0x1fff_ffff) as u32),
+        word(6, (size & 0x1fff_ffff) as u32),
+    ]
+}
+
+/// Records that fit the day file. Positions repeat; nets stay small, or grow to the limit of row 30.
+pub fn batch(rng: &mut Rng, day: &[u32], records: usize) -> Vec<u32> {
+    let series = counts(day).1;
+    let records = if series == 0 { 0 } else { records };
+    let mut out = vec![word(1, records as u32)];
+    for _ in 0..records {
+        let s = rng.below(series as u64) as usize;
+        let t = type_of(day, s);
+        let multiplier = u64::from(day[series_at(day, s) + 1] & 0x1fff_ffff);
+        let exercised = (t == 2 || t == 3) && rng.once_in(3);
+        let security = t >= 4;
+        let fail = security && rng.once_in(3);
+        let most = 10_000_000 / multiplier;
+        let size = rng.pick(&[0, 3, most / 200 + 1, most / 200 + 1, most]);
+        let (long, short) = match rng.below(4) {
+            0 => (rng.below(size + 1), 0),
+            1 => (0, rng.below(size + 1)),
+            2 => (size, size),
+            _ => (rng.below(size / 2 + 1), rng.below(size / 2 + 1)),
+        };
+        let dvp = if security && !rng.once_in(3) {
+            let limit = rng.pick(&[10, 1_000_000, 90_000_000_000, 5_000_000_000_000_000]);
+            if rng.once_in(8) {
+                limit
+            } else {
+                rng.below(limit + 1)
+            }
+        } else {
+            0
+        };
+        out.push(word(2, s as u32 | u32::from(exercised) << 8 | u32::from(fail) << 9));
+        out.push(word(4, long as u32));
+        out.push(word(4, short as u32));
+        out.extend(amount_words(dvp > 0 && rng.once_in(2), dvp));
+    }
+    out
+}
+
+pub fn account(rng: &mut Rng, size: Size) -> Account {
+    let least = u64::from(!rng.once_in(40));
+    let classes = rng.within(least, size.classes) as usize;
+    let series = rng.below(size.series + 1) as usize;
+    let day = day_file(rng, classes, series);
+    let records = rng.below(size.records + 1) as usize;
+    let batch = batch(rng, &day, records);
+    Account { day, batch }
+}
+
+/// An account with exactly these counts, where the keys allow it.
+pub fn full_account(rng: &mut Rng, size: Size) -> Account {
+    let day = day_file(rng, size.classes as usize, size.series as usize);
+    let batch = batch(rng, &day, size.records as usize);
+    Account { day, batch }
+}
+
+/// An accepted account with exactly these counts.
+pub fn accepted(rng: &mut Rng, size: Size) -> Account {
+    loop {
+        let day = day_file(rng, size.classes as usize, size.series as usize);
+        if counts(&day).1 as u64 != size.series {
+            continue;
+        }
+        for _ in 0..100 {
+            let batch = batch(rng, &day, size.records as usize);
+            if reckon(&day, &batch).is_ok() {
+                return Account { day, batch };
+            }
+        }
+    }
+}
+
+/// The longest report: every group has a line in both books.
+pub fn all_lines() -> Account {
+    let class = |group| Class { group, number: 2 * group, equity_rate: 100 + group, offset: 3 * group, ..Class::default() };
+    let series = |group: u32| Series {
+        class_number: 2 * group,
+        kind: EQUITY,
+        serial: group,
+        multiplier: 1 + group,
+        closing: 10_000 + group,
+        theoretical: [9_000, 9_200, 9_400, 9_600, 9_800, 10_200, 10_400, 10_600, 10_800, 11_000],
+        ..Series::default()
+    };
+    let record =
+        |i: u32| Record { series: 28 - i / 2, fail: i % 2 == 1, long: i, short: 40, dvp: i64::from(i), ..Record::default() };
+    let classes: Vec<Class> = (0..29).map(class).collect();
+    let series: Vec<Series> = (0..29).map(series).collect();
+    let records: Vec<Record> = (0..58).map(record).collect();
+    fields::account(&classes, &series, &records)
+}
+
+/// Up to 256 positions at the limits: prices and rates 0 or the highest, nets and DVP amounts as large as the rows allow.
+pub fn extreme(rng: &mut Rng) -> Account {
+    const PRICE: u32 = 500_000_000;
+    let classes = rng.pick(&[1, 2, 16, 64]);
+    let groups = rng.pick(&[1, 2, 29]);
+    let offset = rng.pick(&[0, 1, 99, 100]);
+    let only = rng.below(12) as u32;
+    let down = rng.once_in(3);
+    let high = |rng: &mut Rng| PRICE * u32::from(!rng.once_in(4));
+    let class = |rng: &mut Rng, number: u32| Class {
+        group: number % groups,
+        number,
+        underlying: high(rng),
+        spot_rate: high(rng),
+        non_spot_rate: high(rng),
+        option_rate: high(rng),
+        future_rate: high(rng),
+        equity_rate: high(rng),
+        warrant_rate: high(rng),
+        rights_rate: high(rng),
+        offset,
+        projected: [0; 10].map(|_| high(rng)),
+    };
+    let classes: Vec<Class> = (0..classes).map(|number| class(rng, number)).collect();
+    let mut series: Vec<Series> = (0..256u32)
+        .map(|i| {
+            let kind = if (1..=6).contains(&only) { only } else { 1 + i / 2 % 6 };
+            Series {
+                class_number: i % classes.len() as u32,
+                kind,
+                expiry: if kind <= 3 { i } else { 0 },
+                serial: if kind >= 4 { i / 2 } else { 0 },
+                multiplier: rng.pick(&[1, 1, 1, 10_000]),
+                strike: if kind == 2 || kind == 3 { high(rng) } else { 0 },
+                closing: high(rng),
+                theoretical: [0; 10].map(|_| high(rng)),
+            }
+        })
+        .collect();
+    let place = |s: &Series| (s.class_number, s.kind, s.expiry, s.serial);
+    series.sort_by_key(place);
+    series.dedup_by_key(|s| place(s));
+    let mut records = Vec::new();
+    for (i, s) in series.iter().enumerate() {
+        let size = 10_000_000 / s.multiplier;
+        let (long, short) = if down || rng.once_in(3) { (size, 0) } else { (0, size) };
+        let dvp = if s.kind < 4 { 0 } else { 5_000_000_000_000_000 * if short > 0 { -1 } else { 1 } };
+        let exercised = (s.kind == 2 || s.kind == 3) && rng.once_in(2);
+        let fail = s.kind >= 4 && groups > 1 && rng.once_in(2);
+        records.push(Record { series: i as u32, exercised, fail, long, short, dvp });
+    }
+    fields::account(&classes, &series, &records)
+}
+
+/// 256 shares sold at the highest price, rate and DVP amount: a margin of 256 × 1.5·10^16.
+pub fn utmost() -> Account {
+    const PRICE: u32 = 500_000_000;
+    let class = |number| Class { number, equity_rate: PRICE, ..Class::default() };
+    let series = |i: u32| Series {
+        class_number: i / 128,
+        kind: EQUITY,
+        serial: i % 128,
+        multiplier: 1,
+        closing: PRICE,
+        theoretical: [PRICE; 10],
+        ..Series::default()
+    };
+    let record = |series| Record { series, short: 10_000_000, dvp: -5_000_000_000_000_000, ..Record::default() };
+    let series: Vec<Series> = (0..256).map(series).collect();
+    let records: Vec<Record> = (0..256).map(record).collect();
+    fields::account(&[class(0), class(1)], &series, &records)
+}
+
+/// Damages an account in one of many ways; each row of the table is reached by some of them.
+pub fn damage(rng: &mut Rng, a: &mut Account) {
+    if !whole(a) {
+        flip(rng, &mut a.day);
+        flip(rng, &mut a.batch);
+        return;
+    }
+    let (c, s) = counts(&a.day);
+    let p = (a.batch.len() - 1) / 6;
+    let class = |rng: &mut Rng| 1 + 20 * rng.below(c.max(1) as u64) as usize;
+    let series = |rng: &mut Rng| 1 + 20 * c + 14 * rng.below(s.max(1) as u64) as usize;
+    let record = |rng: &mut Rng| 1 + 6 * rng.below(p.max(1) as u64) as usize;
+    match rng.below(30) {
+        // any word, any bit
+        0 => flip(rng, &mut a.day),
+        1 => flip(rng, &mut a.batch),
+        // headers and lengths
+        2 => a.day[0] = rng.pick(&[0, 1 << 29 | 65, 1 << 29 | 257 << 7, 1 << 29 | 1 << 16, 2 << 29, u32::MAX]),
+        3 => a.batch[0] = rng.pick(&[0, 1 << 29 | 257, 1 << 29 | 1 << 28, 4 << 29, u32::MAX]),
+        4 => cut(rng, &mut a.day),
+        5 => cut(rng, &mut a.batch),
+        6 => a.day.push(rng.next() as u32),
+        7 => a.batch.push(rng.next() as u32),
+        // classes
+        8 if c > 0 => a.day[class(rng)] |= rng.pick(&[1 << 11, 1 << 28, 29, 31]),
+        9 if c > 0 => a.day[class(rng) + 9] = word(4, rng.pick(&[100, 101, 0, 536_870_911])),
+        10 if c > 1 => {
+            let at = 1 + 20 * rng.within(1, c as u64 - 1) as usize;
+            a.day[at] = a.day[at] & !(63 << 5) | a.day[at - 20] & 63 << 5;
+        }
+        11 if c > 0 => a.day[class(rng) + rng.within(1, 8) as usize] = word(3, rng.pick(&[500_000_000, 500_000_001])),
+        // series
+        12 if s > 0 => a.day[series(rng)] ^= 1 << rng.within(23, 28),
+        13 if s > 1 => {
+            let at = 1 + 20 * c + 14 * rng.within(1, s as u64 - 1) as usize;
+            let copied: Vec<u32> = a.day[at - 14..at].to_vec();
+            a.day[at..at + 14].copy_from_slice(&copied);
+        }
+        14 if s > 0 => a.day[series(rng)] ^= 1 << rng.within(19, 22),
+        15 if s > 0 => a.day[series(rng) + 2] = word(3, rng.below(3) as u32),
+        16 if s > 0 => a.day[series(rng)] ^= 1 << rng.below(19),
+        17 if s > 0 => a.day[series(rng) + 1] = word(4, rng.pick(&[0, 1, 10_000, 10_001])),
+        18 if s > 0 => {
+            let at = 1 + 20 * c + 14 * (s - 1);
+            a.day[at] = word(2, (a.day[at] & 0x7f_ffff) & !(15 << 19) | rng.pick(&[0, 7, 15]) << 19 | a.day[at] & 63 << 23);
+        }
+        // records
+        19 if p > 0 => a.batch[record(rng)] ^= 1 << rng.within(0, 7),
+        20 if p > 0 => a.batch[record(rng)] ^= 1 << 8,
+        21 if p > 0 => a.batch[record(rng)] ^= 1 << 9,
+        22 if p > 0 => a.batch[record(rng)] |= 1 << rng.within(10, 28),
+        23 if p > 0 => a.batch[record(rng) + rng.within(1, 2) as usize] = word(4, rng.pick(&[10_000_000, 10_000_001])),
+        24 if p > 0 => {
+            let at = record(rng) + 3;
+            let (negative, size) =
+                rng.pick(&[(true, 0), (false, 5_000_000_000_000_001), (true, 5_000_000_000_000_000), (false, 7)]);
+            a.batch[at..at + 3].copy_from_slice(&amount_words(negative, size));
+        }
+        25 if p > 0 => a.batch[record(rng) + 3] |= 1 << rng.within(5, 27),
+        26 if p > 0 => {
+            let (at, kind) = (record(rng) + rng.below(6) as usize, rng.below(8) as u32);
+            a.batch[at] = a.batch[at] & 0x1fff_ffff | kind << 29;
+        }
+        27 if c + s > 0 => {
+            let (at, kind) = (1 + rng.below(a.day.len() as u64 - 1) as usize, rng.below(8) as u32);
+            a.day[at] = a.day[at] & 0x1fff_ffff | kind << 29;
+        }
+        // empty files
+        28 if rng.once_in(6) => a.day.clear(),
+        29 if rng.once_in(6) => a.batch.clear(),
+        _ => flip(rng, &mut a.batch),
+    }
+}
+
+/// Both lengths follow from their headers.
+fn whole(a: &Account) -> bool {
+    let (Some(&day), Some(&batch)) = (a.day.first(), a.batch.first()) else { return false };
+    let (c, s, p) = (day & 127, day >> 7 & 511, batch & 0x1fff_ffff);
+    a.day.len() as u64 == u64::from(1 + 20 * c + 14 * s) && a.batch.len() as u64 == 1 + 6 * u64::from(p)
+}
+
+fn flip(rng: &mut Rng, words: &mut [u32]) {
+    if !words.is_empty() {
+        let at = rng.below(words.len() as u64) as usize;
+        words[at] ^= 1 << rng.below(32);
+    }
+}
+
+fn cut(rng: &mut Rng, words: &mut Vec<u32>) {
+    let keep = rng.below(words.len() as u64 + 1) as usize;
+    words.truncate(keep);
+}

@@ -1,0 +1,43 @@
+//! Writes seeds of the fuzz target into a folder: two bytes of day length, two of memory length, day file, batch.
+use harness::accounts::{account, damage, Account, LARGEST, SMALL, TYPICAL};
+use harness::reckoner::to_bytes;
+use harness::rng::Rng;
+use harness::samples::samples;
+use std::path::Path;
+use std::process::ExitCode;
+
+fn seed(a: &Account, room: u16) -> Vec<u8> {
+    let day = to_bytes(&a.day);
+    let mut out = (day.len() as u16).to_le_bytes().to_vec();
+    out.extend(room.to_le_bytes());
+    out.extend(day);
+    out.extend(to_bytes(&a.batch));
+    out
+}
+
+fn main() -> ExitCode {
+    let Some(folder) = std::env::args().nth(1) else {
+        eprintln!("usage: seeds FOLDER");
+        return ExitCode::from(2);
+    };
+    let folder = Path::new(&folder);
+    std::fs::create_dir_all(folder).expect("folder");
+    let write = |name: String, content: Vec<u8>| std::fs::write(folder.join(name), content).expect("seed");
+    for s in samples() {
+        write(format!("sample-{}", s.name), seed(&s.account, 4460));
+    }
+    let mut rng = Rng::new(99);
+    for i in 0..60 {
+        let size = match i % 20 {
+            0 => LARGEST,
+            1..=4 => TYPICAL,
+            _ => SMALL,
+        };
+        let mut a = account(&mut rng, size);
+        if i % 3 == 2 {
+            damage(&mut rng, &mut a);
+        }
+        write(format!("account-{i:02}"), seed(&a, 4460));
+    }
+    ExitCode::SUCCESS
+}

@@ -1,0 +1,129 @@
+/*
+ * The MARS margin report of one account.
+ *
+ * mars_report reads a day file and a position batch and writes a report: netting, futures spread, mark-to-market, premium,
+ * additional and minimum margin, total margin, fails held separately, one line for each product group of each book.
+ * Every amount is exact, in ten-thousandths of a euro; debit is positive, credit negative.
+ *
+ * All three memories are runs of 32-bit words, low byte first.
+ */
+#ifndef MARS_H
+#define MARS_H
+
+#include <stddef.h>
+#include <stdint.h>
+
+#ifdef __cplusplus
+extern "C" {
+#endif
+
+/* The longest forms, in bytes. A report memory of MARS_REPORT_BYTES is always long enough. */
+#define MARS_DAY_BYTES 19460    /* 1 + 20 x 64 + 14 x 256 words */
+#define MARS_BATCH_BYTES 6148   /* 1 + 6 x 256 words */
+#define MARS_REPORT_BYTES 4460  /* 13 + 19 x 58 words */
+
+/*
+ * Computes the report of an account.
+ *
+ * day, batch   Read during the call only, never written or kept. The caller owns them before, during and after it, and
+ *              nothing may write to them while the call runs. They may overlap each other.
+ * report       Written during the call only and never kept. It must overlap neither input.
+ * *_len        Lengths in bytes. Any length is allowed, zero too; a file whose length is no multiple of 4 is refused, and
+ *              the last report_len % 4 bytes of the report memory are never written.
+ * Pointers     Not NULL, not even with length zero. No alignment is needed.
+ *
+ * Result       mars_number is 0 for a report, and mars_value its length in 32-bit words (13 + 19 x lines). Its bytes are
+ *              4 x that; bytes past them remain.
+ *              Otherwise mars_number is the number of a refusal (enum mars_refusal) and mars_value its place: the first
+ *              offending record from 0, or for MARS_SHORT_REPORT the words needed. The report memory is then unchanged.
+ *
+ * Threads      The call keeps no state. It may run in any threads at once as long as their report memories are distinct;
+ *              inputs may be shared.
+ *
+ * The call has no other condition: every content of every length ends in a report or in one refusal.
+ */
+uint64_t mars_report(const uint8_t *day, size_t day_len, const uint8_t *batch, size_t batch_len, uint8_t *report,
+                     size_t report_len);
+
+/* Refusals in the order in which they are tried, each over all records before the next. */
+enum mars_refusal {
+    MARS_REPORT = 0,            /* no refusal: a report was written */
+    MARS_DAY_BYTES_BAD = 1,     /* day file's length is no multiple of 4, or exceeds the longest form */
+    MARS_BATCH_BYTES_BAD = 2,   /* the same of the batch */
+    MARS_DAY_HEADER = 10,       /* day header: no words, wrong kind, spare bits, too many classes or series */
+    MARS_DAY_LENGTH = 11,       /* day file's length does not follow from its header */
+    MARS_DAY_WORD = 12,         /* a class or series: wrong kind, spare bit, out of range; place: classes, then series */
+    MARS_CLASS_ORDER = 13,      /* class number not above the one before; place: class */
+    MARS_CLASS_OFFSET = 14,     /* offset differs from an earlier class of the group; place: class */
+    MARS_SERIES_CLASS = 15,     /* the series' class is absent; place: series, here and in the two below */
+    MARS_SERIES_ORDER = 16,     /* key, then strike, not above the series before */
+    MARS_SERIES_TYPE = 17,      /* type unknown, or serial, strike or expiry not 0 where the type has none */
+    MARS_BATCH_HEADER = 20,     /* batch header: no words, wrong kind, too many records */
+    MARS_BATCH_LENGTH = 21,     /* batch's length does not follow from its header */
+    MARS_BATCH_WORD = 22,       /* wrong kind, spare bit, out of range, minus zero; place: record, here and below */
+    MARS_POSITION_SERIES = 23,  /* no such series in the day file */
+    MARS_POSITION_EXERCISE = 24, /* exercised or assigned, and not an option */
+    MARS_POSITION_FAIL = 25,    /* a fail, and not a security */
+    MARS_POSITION_DVP = 26,     /* DVP amount not 0, and not a security */
+    MARS_NET_LIMIT = 30,        /* a position's net x multiplier above 10,000,000; place: its first record */
+    MARS_SHORT_REPORT = 40      /* report memory too short; the value is the words needed */
+};
+
+/* The amounts of a line, and the totals. */
+enum mars_amount {
+    MARS_SPREAD = 0,
+    MARS_MTM = 1,
+    MARS_PREMIUM = 2,
+    MARS_REQUIREMENT = 3,
+    MARS_MARGIN = 4,
+    MARS_RESIDUAL = 5
+};
+
+enum mars_total { MARS_ORDINARY = 0, MARS_FAIL = 1, MARS_ACCOUNT = 2 };
+
+/* The two parts of a result. */
+static inline uint32_t mars_number(uint64_t result) { return (uint32_t)(result >> 32); }
+static inline uint32_t mars_value(uint64_t result) { return (uint32_t)(result & 0xffffffffu); }
+
+/* A word of a report, by its place from 0. */
+static inline uint32_t mars_word(const uint8_t *report, size_t at) {
+    const uint8_t *b = report + 4 * at;
+    return (uint32_t)b[0] | (uint32_t)b[1] << 8 | (uint32_t)b[2] << 16 | (uint32_t)b[3] << 24;
+}
+
+/* An amount of three words: sign and top five bits, the next 29 bits, the low 29. */
+static inline int64_t mars_amount_at(const uint8_t *report, size_t at) {
+    uint32_t top = mars_word(report, at);
+    uint64_t size = (uint64_t)(top & 31u) << 58 | (uint64_t)(mars_word(report, at + 1) & 0x1fffffffu) << 29 |
+                    (uint64_t)(mars_word(report, at + 2) & 0x1fffffffu);
+    return top >> 28 & 1u ? -(int64_t)size : (int64_t)size;
+}
+
+/* The accessors below are for a report that a call has written; i is below the line count. */
+
+static inline uint32_t mars_line_count(const uint8_t *report) { return mars_word(report, 0) & 0x1fffffffu; }
+
+/* Maps of the groups with a line: bit g for group g. */
+static inline uint32_t mars_ordinary_groups(const uint8_t *report) { return mars_word(report, 1) & 0x1fffffffu; }
+static inline uint32_t mars_fail_groups(const uint8_t *report) { return mars_word(report, 2) & 0x1fffffffu; }
+
+/* A line's key: bits 0-4 group, bit 5 set for a fail. Ordinary lines come first, each book by ascending group. */
+static inline uint32_t mars_line_key(const uint8_t *report, uint32_t i) {
+    return mars_word(report, 3 + 19 * (size_t)i) & 0x1fffffffu;
+}
+static inline uint32_t mars_line_group(const uint8_t *report, uint32_t i) { return mars_line_key(report, i) & 31u; }
+static inline int mars_line_fail(const uint8_t *report, uint32_t i) { return (int)(mars_line_key(report, i) >> 5 & 1u); }
+
+static inline int64_t mars_line_amount(const uint8_t *report, uint32_t i, enum mars_amount which) {
+    return mars_amount_at(report, 4 + 19 * (size_t)i + 3 * (size_t)which);
+}
+
+static inline int64_t mars_total(const uint8_t *report, enum mars_total which) {
+    return mars_amount_at(report, 4 + 19 * (size_t)mars_line_count(report) + 3 * (size_t)which);
+}
+
+#ifdef __cplusplus
+}
+#endif
+
+#endif

@@ -1,0 +1,224 @@
+/* Calls at the edges: unaligned and empty inputs, short memories, memories at the border of inaccessible pages, threads. */
+#define _DEFAULT_SOURCE
+#include "mars.h"
+
+#include <pthread.h>
+#include <stdio.h>
+#include <stdlib.h>
+#include <string.h>
+#include <sys/mman.h>
+#include <unistd.h>
+
+#define GUARD 64
+
+static int failures;
+
+static void check(int holds, const char *what, size_t at) {
+    if (!holds) {
+        printf("FAILED %s (%zu)\n", what, at);
+        failures++;
+    }
+}
+
+struct file {
+    uint8_t *bytes;
+    size_t length;
+};
+
+static struct file read_file(const char *folder, const char *name) {
+    char path[512];
+    snprintf(path, sizeof path, "%s/%s", folder, name);
+    FILE *from = fopen(path, "rb");
+    if (from == NULL) {
+        perror(path);
+        exit(2);
+    }
+    struct file f = {malloc(MARS_DAY_BYTES + 1), 0};
+    if (f.bytes == NULL) exit(2);
+    f.length = fread(f.bytes, 1, MARS_DAY_BYTES + 1, from);
+    fclose(from);
+    return f;
+}
+
+static struct file day, batch;
+static uint8_t expected[MARS_REPORT_BYTES];
+static uint64_t expected_result;
+
+/* A block whose length is exactly that of the content, so that a sanitizer sees an access past it. */
+static uint8_t *exact(const uint8_t *content, size_t length) {
+    uint8_t *block = malloc(length ? length : 1);
+    if (block == NULL) exit(2);
+    if (length) memcpy(block, content, length);
+    return block;
+}
+
+/* Inputs and memory at each of four alignments. */
+static void unaligned(void) {
+    uint8_t *a = malloc(day.length + 4), *b = malloc(batch.length + 4), *r = malloc(MARS_REPORT_BYTES + 4);
+    if (a == NULL || b == NULL || r == NULL) exit(2);
+    for (size_t shift = 0; shift < 64; shift++) {
+        size_t i = shift & 3, j = shift >> 2 & 3, k = shift >> 4;
+        memcpy(a + i, day.bytes, day.length);
+        memcpy(b + j, batch.bytes, batch.length);
+        memset(r, 0, MARS_REPORT_BYTES + 4);
+        uint64_t result = mars_report(a + i, day.length, b + j, batch.length, r + k, MARS_REPORT_BYTES);
+        check(result == expected_result, "unaligned: result", shift);
+        check(memcmp(r + k, expected, 4 * (size_t)mars_value(expected_result)) == 0, "unaligned: report", shift);
+    }
+    free(a);
+    free(b);
+    free(r);
+}
+
+/* One call with guards around a memory of `room` bytes. The bytes that the call may not write must stay. */
+static uint64_t guarded(const uint8_t *d, size_t d_len, const uint8_t *b, size_t b_len, size_t room, const char *what) {
+    uint8_t *block = malloc(room + 2 * GUARD);
+    if (block == NULL) exit(2);
+    for (size_t i = 0; i < room + 2 * GUARD; i++) block[i] = (uint8_t)(i * 7 + 13);
+    uint64_t result = mars_report(d, d_len, b, b_len, block + GUARD, room);
+    size_t written = mars_number(result) == MARS_REPORT ? 4 * (size_t)mars_value(result) : 0;
+    check(written <= room, what, room);
+    for (size_t i = 0; i < room + 2 * GUARD; i++) {
+        if (i >= GUARD && i < GUARD + written) continue;
+        check(block[i] == (uint8_t)(i * 7 + 13), what, i);
+    }
+    free(block);
+    return result;
+}
+
+static uint64_t refusal(uint32_t number, uint32_t place) { return (uint64_t)number << 32 | place; }
+
+static void memories(void) {
+    uint32_t needed = mars_value(expected_result);
+    for (size_t room = 0; room <= 4 * (size_t)needed + 9; room++) {
+        uint64_t result = guarded(day.bytes, day.length, batch.bytes, batch.length, room, "short memory");
+        check(result == (room / 4 < needed ? refusal(MARS_SHORT_REPORT, needed) : expected_result), "short memory: result", room);
+    }
+}
+
+static void inputs(void) {
+    uint8_t nothing = 0;
+    uint8_t *long_day = calloc(MARS_DAY_BYTES + 4, 1), *long_batch = calloc(MARS_BATCH_BYTES + 4, 1);
+    if (long_day == NULL || long_batch == NULL) exit(2);
+    size_t room = MARS_REPORT_BYTES;
+    check(guarded(&nothing, 0, &nothing, 0, 0, "empty") == refusal(MARS_DAY_HEADER, 0), "empty: all", 0);
+    check(guarded(&nothing, 0, batch.bytes, batch.length, room, "empty") == refusal(MARS_DAY_HEADER, 0), "empty: day", 0);
+    check(guarded(day.bytes, day.length, &nothing, 0, room, "empty") == refusal(MARS_BATCH_HEADER, 0), "empty: batch", 0);
+    check(guarded(long_day, MARS_DAY_BYTES + 4, batch.bytes, batch.length, room, "long") == refusal(MARS_DAY_BYTES_BAD, 0),
+          "long: day", 0);
+    check(guarded(day.bytes, day.length, long_batch, MARS_BATCH_BYTES + 4, room, "long") == refusal(MARS_BATCH_BYTES_BAD, 0),
+          "long: batch", 0);
+    check(guarded(long_day, MARS_DAY_BYTES, batch.bytes, batch.length, room, "longest") == refusal(MARS_DAY_HEADER, 0),
+          "longest: day", 0);
+    check(guarded(day.bytes, day.length, long_batch, MARS_BATCH_BYTES, room, "longest") == refusal(MARS_BATCH_HEADER, 0),
+          "longest: batch", 0);
+    for (size_t n = 0; n < day.length; n++) {
+        uint8_t *cut = exact(day.bytes, n);
+        uint32_t number = n % 4 ? MARS_DAY_BYTES_BAD : n ? MARS_DAY_LENGTH : MARS_DAY_HEADER;
+        check(guarded(cut, n, batch.bytes, batch.length, room, "cut day") == refusal(number, 0), "cut day: result", n);
+        free(cut);
+    }
+    for (size_t n = 0; n < batch.length; n++) {
+        uint8_t *cut = exact(batch.bytes, n);
+        uint32_t number = n % 4 ? MARS_BATCH_BYTES_BAD : n ? MARS_BATCH_LENGTH : MARS_BATCH_HEADER;
+        check(guarded(day.bytes, day.length, cut, n, room, "cut batch") == refusal(number, 0), "cut batch: result", n);
+        free(cut);
+    }
+    free(long_day);
+    free(long_batch);
+}
+
+/* Pages with an inaccessible one on each side; a stray access ends the program. */
+static uint8_t *fenced(size_t length) {
+    size_t page = (size_t)sysconf(_SC_PAGESIZE);
+    uint8_t *start = mmap(NULL, length + 2 * page, PROT_NONE, MAP_PRIVATE | MAP_ANONYMOUS, -1, 0);
+    if (start == MAP_FAILED || mprotect(start + page, length, PROT_READ | PROT_WRITE) != 0) {
+        perror("mmap");
+        exit(2);
+    }
+    return start + page;
+}
+
+static void borders(void) {
+    size_t page = (size_t)sysconf(_SC_PAGESIZE);
+    size_t room = (MARS_DAY_BYTES / page + 1) * page;
+    size_t words = 4 * (size_t)mars_value(expected_result);
+    uint8_t *d = fenced(room), *b = fenced(room), *r = fenced(room);
+    for (size_t at_end = 0; at_end < 2; at_end++) {
+        uint8_t *d_at = at_end ? d + room - day.length : d;
+        uint8_t *b_at = at_end ? b + room - batch.length : b;
+        memcpy(d_at, day.bytes, day.length);
+        memcpy(b_at, batch.bytes, batch.length);
+        mprotect(d, room, PROT_READ);
+        mprotect(b, room, PROT_READ);
+        for (size_t length = 0; length <= words + 5; length++) {
+            uint8_t *r_at = at_end ? r + room - length : r;
+            uint64_t result = mars_report(d_at, day.length, b_at, batch.length, r_at, length);
+            check((mars_number(result) == MARS_REPORT) == (length >= words), "border: result", length);
+            if (length >= words) check(memcmp(r_at, expected, words) == 0, "border: report", length);
+        }
+        mprotect(d, room, PROT_READ | PROT_WRITE);
+        mprotect(b, room, PROT_READ | PROT_WRITE);
+    }
+}
+
+static void *many_calls(void *differences) {
+    uint8_t own[MARS_REPORT_BYTES];
+    for (int i = 0; i < 2000; i++) {
+        memset(own, 0, sizeof own);
+        uint64_t result = mars_report(day.bytes, day.length, batch.bytes, batch.length, own, sizeof own);
+        if (result != expected_result || memcmp(own, expected, 4 * (size_t)mars_value(result)) != 0) ++*(int *)differences;
+    }
+    return NULL;
+}
+
+/* Shared inputs, a memory for each thread. */
+static void threads(void) {
+    pthread_t thread[4];
+    int differences[4] = {0, 0, 0, 0};
+    for (int i = 0; i < 4; i++)
+        if (pthread_create(&thread[i], NULL, many_calls, &differences[i]) != 0) exit(2);
+    for (int i = 0; i < 4; i++) {
+        pthread_join(thread[i], NULL);
+        check(differences[i] == 0, "threads", (size_t)i);
+    }
+}
+
+static void accessors(void) {
+    check(mars_line_count(expected) == 2, "line count", 0);
+    check(mars_ordinary_groups(expected) == 1u << 3 && mars_fail_groups(expected) == 1u << 3, "groups", 0);
+    check(mars_line_key(expected, 0) == 3 && mars_line_key(expected, 1) == (3 | 1 << 5), "keys", 0);
+    check(mars_line_group(expected, 1) == 3 && !mars_line_fail(expected, 0) && mars_line_fail(expected, 1), "books", 0);
+    check(mars_line_amount(expected, 0, MARS_SPREAD) == 0, "spread", 0);
+    check(mars_line_amount(expected, 0, MARS_MTM) == -2000000, "MTM", 0);
+    check(mars_line_amount(expected, 1, MARS_MTM) == 1200000, "MTM", 1);
+    check(mars_line_amount(expected, 0, MARS_PREMIUM) == 0, "premium", 0);
+    check(mars_line_amount(expected, 0, MARS_REQUIREMENT) == 12500000, "requirement", 0);
+    check(mars_line_amount(expected, 0, MARS_MARGIN) == 10500000, "margin", 0);
+    check(mars_line_amount(expected, 0, MARS_RESIDUAL) == 0, "residual", 0);
+    check(mars_total(expected, MARS_ORDINARY) == 10500000, "total", 0);
+    check(mars_total(expected, MARS_FAIL) == 6200000, "total", 1);
+    check(mars_total(expected, MARS_ACCOUNT) == 16700000, "total", 2);
+}
+
+/* The argument is the folder of the sample `fail`. */
+int main(int argc, char **argv) {
+    if (argc != 2) {
+        fprintf(stderr, "usage: %s FOLDER\n", argv[0]);
+        return 2;
+    }
+    day = read_file(argv[1], "day.w32");
+    batch = read_file(argv[1], "pos.w32");
+    expected_result = mars_report(day.bytes, day.length, batch.bytes, batch.length, expected, sizeof expected);
+    check(expected_result == 13 + 19 * 2, "report", 0);
+    accessors();
+    unaligned();
+    memories();
+    inputs();
+    borders();
+    threads();
+    free(day.bytes);
+    free(batch.bytes);
+    if (failures == 0) puts("all calls as expected");
+    return failures != 0;
+}
