@@ -1,10 +1,14 @@
-// Demand 3 of the code: two reports with one day file, of two batches that are edits or reorderings.
+// Demand 3 of the code: two reports with one day file, of two batches that are edits or reorderings; and they are demand 2's.
+ghost use mathlib.Core.Path.{_≡_};
+ghost use Rattle.model.specs.Bytes.{bytesAfter};
+ghost use Rattle.model.specs.Calls.{memoryAfter};
 ghost use Rattle.locality.specs.Edits.{LocalEdit, LocalByteEdit, SameOrder, SameByteOrder};
 use model::Answer;
 
 // Two reports over words: an edit in one group of one book changes its line alone.
 pub fn report_edits(day: &[u32], first: &[u32], second: &[u32], a: &mut [u32], b: &mut [u32])
     ensures { λ _. ⌜ LocalEdit (now (day .entry)) (now (first .entry)) (now (second .entry)) (now (a .entry)) (now (b .entry)) (now (a .exit)) (now (b .exit)) ⌝ }
+    ensures { λ _. ⌜ (now (a .exit) ≡ memoryAfter (now (day .entry)) (now (first .entry)) (now (a .entry))) × (now (b .exit) ≡ memoryAfter (now (day .entry)) (now (second .entry)) (now (b .entry))) ⌝ }
 {
     report::report(day, first, a);
     report::report(day, second, b);
@@ -13,6 +17,7 @@ pub fn report_edits(day: &[u32], first: &[u32], second: &[u32], a: &mut [u32], b
 // Two reports over bytes: the same.
 pub fn byte_edits(day: &[u8], first: &[u8], second: &[u8], a: &mut [u8], b: &mut [u8])
     ensures { λ _. ⌜ LocalByteEdit (now (day .entry)) (now (first .entry)) (now (second .entry)) (now (a .entry)) (now (b .entry)) (now (a .exit)) (now (b .exit)) ⌝ }
+    ensures { λ _. ⌜ (now (a .exit) ≡ bytesAfter (now (day .entry)) (now (first .entry)) (now (a .entry))) × (now (b .exit) ≡ bytesAfter (now (day .entry)) (now (second .entry)) (now (b .entry))) ⌝ }
 {
     mars::byte_report(day, first, a);
     mars::byte_report(day, second, b);
@@ -33,6 +38,7 @@ pub fn report_orders(
     b: &mut [u32],
 ) -> Answers
     ensures { λ r. ⌜ SameOrder (now (day .entry)) (now (first .entry)) (now (second .entry)) (now (a .entry)) (now (b .entry)) (now (a .exit)) (now (b .exit)) (r .one) (r .two) ⌝ }
+    ensures { λ _. ⌜ (now (a .exit) ≡ memoryAfter (now (day .entry)) (now (first .entry)) (now (a .entry))) × (now (b .exit) ≡ memoryAfter (now (day .entry)) (now (second .entry)) (now (b .entry))) ⌝ }
 {
     let one = report::report(day, first, a);
     let two = report::report(day, second, b);
@@ -42,6 +48,7 @@ pub fn report_orders(
 // Two reports over bytes: the same.
 pub fn byte_orders(day: &[u8], first: &[u8], second: &[u8], a: &mut [u8], b: &mut [u8]) -> Answers
     ensures { λ r. ⌜ SameByteOrder (now (day .entry)) (now (first .entry)) (now (second .entry)) (now (a .entry)) (now (b .entry)) (now (a .exit)) (now (b .exit)) (r .one) (r .two) ⌝ }
+    ensures { λ _. ⌜ (now (a .exit) ≡ bytesAfter (now (day .entry)) (now (first .entry)) (now (a .entry))) × (now (b .exit) ≡ bytesAfter (now (day .entry)) (now (second .entry)) (now (b .entry))) ⌝ }
 {
     let one = mars::byte_report(day, first, a);
     let two = mars::byte_report(day, second, b);

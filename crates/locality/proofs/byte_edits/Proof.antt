@@ -21,7 +21,7 @@ returns c =
     let s = c .before .before .before .before .before .before .before .before .before .before .before .before .before in
     let one = c .before .before .before .before .before .before .byte-report in
     let two = c .before .before .byte-report2 in
-    local-byte-edit (now (s .args .day)) (now (s .args .first)) (now (s .args .second)) (now (s .args .a)) (now (s .args .b)) (one .last .1 .1 .0) (two .last .1 .1 .0) (one .ensures .1) (two .ensures .1)
+    (local-byte-edit (now (s .args .day)) (now (s .args .first)) (now (s .args .second)) (now (s .args .a)) (now (s .args .b)) (one .last .1 .1 .0) (two .last .1 .1 .0) (one .ensures .1) (two .ensures .1), (one .ensures .1, two .ensures .1))
 
 pub byte-edits-spec : {M : Type 1} → statement M
 byte-edits-spec =

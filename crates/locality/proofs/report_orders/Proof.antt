@@ -20,9 +20,11 @@ returns : tie.Need-returns
 returns c =
     let s = c .before .before .before .before .before .before .before .before .before .before .before .before .before in
     let one = c .before .before .before .before .before .before .report in
-    let two = c .before .before .report2 in
-    same-order (now (s .args .day)) (now (s .args .first)) (now (s .args .second)) (now (s .args .a)) (now (s .args .b)) (one .last .1 .1 .0) (two .last .1 .1 .0)
-    (one .result) (two .result) (one .ensures .1) (two .ensures .1) (one .ensures .0) (two .ensures .0)
+    let two = c .before .before .report2 in (
+      same-order (now (s .args .day)) (now (s .args .first)) (now (s .args .second)) (now (s .args .a)) (now (s .args .b)) (one .last .1 .1 .0) (two .last .1 .1 .0)
+          (one .result) (two .result) (one .ensures .1) (two .ensures .1) (one .ensures .0) (two .ensures .0),
+      (one .ensures .1, two .ensures .1),
+    )
 
 pub report-orders-spec : {M : Type 1} → statement M
 report-orders-spec =
