@@ -1,3 +1,4 @@
 pub mod Digits
 pub mod Texts
 pub mod Room
+pub mod Heads
