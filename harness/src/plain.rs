@@ -195,8 +195,10 @@ fn class_sums(day: &Day, nets: &[i64; NETS], dvps: &[i64; NETS], book: usize, c:
         } else if t >= 2 {
             sums.premium += n * m * closing + done * m * sign * (price(1) - i64::from(day.one(s, 2)));
         }
-        for (k, point) in points.iter_mut().enumerate() {
-            *point += counted * m * (i64::from(day.one(s, 4 + k)) - closing);
+        if counted != 0 {
+            for (k, point) in points.iter_mut().enumerate() {
+                *point += counted * m * (i64::from(day.one(s, 4 + k)) - closing);
+            }
         }
         if done != 0 {
             for (k, point) in points.iter_mut().enumerate() {

@@ -12,7 +12,7 @@ use lib.ListN.{length, getD}
 use Rattle.numbers.specs.Scan.{firstBad, hit, first-clear}
 use Rattle.numbers.specs.Lists.{nothing-hit}
 use Rattle.model.specs.Words.{kind, payload, bits, badWord, magnitude, negative}
-use Rattle.model.specs.DayFile.{classCount, seriesCount, classWord, seriesWord, group, offset, multiplier}
+use Rattle.model.specs.DayFile.{classCount, seriesCount, classWord, seriesWord, group, underlying, offset, multiplier, closing}
 use Rattle.model.specs.DayChecks.{badClassWord, badSeriesWord, badClass, badSeries, row11, row12}
 use Rattle.model.specs.Batch.{batchHeader, recordCount, recordWord, key, place, long, short, dvpSize, dvpAmount}
 use Rattle.model.specs.BatchChecks.{badRecordWord, badDvp, row20, row21, row22, row23}
@@ -43,6 +43,9 @@ module _ (d : List ℕ) (r : DayRows d) where
     unfolding badClassWord
     class-price i p q o = within (classWord d c i) 3 500000000 (rw (ne-eqb i 0 q, ne-eqb i 9 o) at (class-word i p))
 
+    pub underlying-limit : underlying d c ≤ 500000000
+    underlying-limit = class-price 1 (omega arith) (λ z. omega arith) (λ z. omega arith)
+
     pub offset-limit : offset d c ≤ 100
     unfolding badClassWord
     offset-limit = within (classWord d c 9) 4 100 (class-word 9 (omega arith))
@@ -65,6 +68,9 @@ module _ (d : List ℕ) (r : DayRows d) where
     pub series-price : (i : ℕ) → i < 14 → i ≢ 0 → i ≢ 1 → payload (seriesWord d s i) ≤ 500000000
     unfolding badSeriesWord
     series-price i p q o = within (seriesWord d s i) 3 500000000 (rw (ne-eqb i 0 q, ne-eqb i 1 o) at (series-word i p))
+
+    pub closing-limit : closing d s ≤ 500000000
+    closing-limit = series-price 3 (omega arith) (λ z. omega arith) (λ z. omega arith)
 
     pub multiplier-least : 1 ≤ multiplier d s
     unfolding badSeries

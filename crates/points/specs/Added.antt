@@ -1,10 +1,16 @@
 -- What a position adds to ten running amounts.
+use mathlib.Core.Path.{_≡_, sym, ap, _∙_}
+use mathlib.Core.Bool.{Bool, true, not}
 use mathlib.Core.List.{List}
-use Prim.Native.Nat.{ℕ, _≤_}
-use lib.IntN.{ℤ, pos, natAbs, _+ℤ_, _-ℤ_, _*ℤ_}
-use lib.ListN.{getD}
-use Rattle.numbers.specs.Abs.{natAbs-pos-sub, natAbs-*-le}
-use Rattle.numbers.specs.Table.{tabulate}
+use Prim.Native.Nat.{ℕ, zero, suc, _≤_, _<_}
+use native.Mathlib.Omega.{arith}
+use borrow.Author.Tests.{ltb-false, not-true}
+use lib.Dec.{ltb}
+use lib.IntN.{ℤ, pos, negsuc, natAbs, _+ℤ_, _-ℤ_, _*ℤ_, zero-*ℤ, +ℤ-idr}
+use lib.ListN.{length, getD}
+use Rattle.numbers.specs.Abs.{natAbs-+, natAbs-pos-sub, natAbs-*-le}
+use Rattle.numbers.specs.Filling.{tabulate-getD}
+use Rattle.numbers.specs.Table.{tabulate, getD-tabulate, tabulate-ext}
 
 -- net × multiplier × change of the price
 abbrev pub changeAmount : ℤ → ℕ → ℕ → ℤ
@@ -20,3 +26,29 @@ added at z base prices = tabulate 10 (addedAt at z base prices)
 pub change-size : (z : ℤ) (base price : ℕ) → natAbs z ≤ 2560000000 → base ≤ 500000000 → price ≤ 500000000
     → natAbs (changeAmount z base price) ≤ 1280000000000000000
 change-size z base price h p q = natAbs-*-le z (pos price -ℤ pos base) 2560000000 500000000 h (natAbs-pos-sub price base 500000000 q p)
+
+-- a position of no contracts adds none
+pub added-none : (z : ℤ) (at : List ℤ) (base : ℕ) (prices : List ℕ) → natAbs z ≤ 0 → length at ≡ 10 → at ≡ added at z base prices
+added-none (pos zero) at base prices h l =
+    tabulate-getD at 10 (pos 0) l
+    ∙ tabulate-ext 10 _ (addedAt at (pos 0) base prices)
+    (λ k q. sym (ap (λ (y : ℤ). getD at k (pos 0) +ℤ y) (zero-*ℤ (pos (getD prices k 0) -ℤ pos base)) ∙ +ℤ-idr (getD at k (pos 0))))
+added-none (pos (suc n)) at base prices h l = absurd (omega arith)
+added-none (negsuc n) at base prices h l = absurd (omega arith)
+
+-- a test says that there is no net
+pub is-none : (t : Bool) (z y : ℤ) → z ≡ y → t ≡ ltb 0 (natAbs z) → not t ≡ true → natAbs y ≤ 0
+is-none t z y e q h = ltb-false 0 (natAbs y) (ap (λ (x : ℤ). ltb 0 (natAbs x)) (sym e) ∙ sym q ∙ not-true t h)
+
+-- the amounts after one position
+pub added-size : (at : List ℤ) (z : ℤ) (base : ℕ) (prices : List ℕ) → natAbs z ≤ 2560000000 → base ≤ 500000000
+    → ((k : ℕ) → k < 10 → getD prices k 0 ≤ 500000000) → ((k : ℕ) → k < 10 → natAbs (getD at k (pos 0)) ≤ 1280000000000000000)
+    → (k : ℕ) → k < 10 → natAbs (getD (added at z base prices) k (pos 0)) ≤ 4000000000000000000
+added-size at z base prices h p q a k l =
+    rw (getD-tabulate 10 (addedAt at z base prices) k (pos 0) l)
+    (omega (
+      arith,
+      natAbs-+ (getD at k (pos 0)) (changeAmount z base (getD prices k 0)),
+      a k l,
+      change-size z base (getD prices k 0) h p (q k l),
+    ))

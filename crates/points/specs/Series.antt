@@ -6,8 +6,8 @@ use Prim.Native.Nat.{ℕ, zero, suc, _+_, _*_, _≤_, _<_}
 use native.Mathlib.Nat.{mul-le-mul, le-refl, le-trans}
 use native.Mathlib.Omega.{arith}
 use lib.IntN.{ℤ, pos, negsuc, negℤ, natAbs, _+ℤ_, _-ℤ_, _*ℤ_, +ℤ-assoc, zero-*ℤ, *ℤ-zero}
-use lib.ListN.{getD}
-use Rattle.numbers.specs.Abs.{natAbs-*}
+use lib.ListN.{length, getD}
+use Rattle.numbers.specs.Abs.{natAbs-*, natAbs-*-le}
 use Rattle.numbers.specs.Sums.{sumWhere}
 use Rattle.numbers.specs.Table.{tabulate, getD-tabulate, tabulate-ext}
 use Rattle.model.specs.DayFile.{classCount, seriesCount, seriesType, multiplier, closing, theoretical, underlying, projected, isCall, isPut, isFuture}
@@ -16,13 +16,13 @@ use Rattle.model.specs.Steps.Classes.{ofClass, worth, turned}
 use Rattle.model.specs.Steps.Spread.{spreadQuantity, shortBefore, longBefore, nonSpread}
 use Rattle.model.specs.Steps.Points.{openChange, exercisedChange, countedNet, pointOf, classPoint}
 use Rattle.model.proofs.Accepted.{DayRows}
-use Rattle.model.proofs.Limits.{class-price, series-price}
+use Rattle.model.proofs.Limits.{class-price, series-price, closing-limit}
 use Rattle.model.proofs.Bounds.{turned-abs, counted-bound, point-so-far}
 use Rattle.classes.specs.Tables.{entry, Given}
 use Rattle.classes.specs.Range.{Range, sum-start, sum-turn, sum-end}
 use Rattle.classes.specs.Sizes.{contracts-size}
 use Rattle.spread.specs.Sides.{nonSpreadOf}
-use Rattle.points.specs.Added.{changeAmount, addedAt, added}
+use Rattle.points.specs.Added.{changeAmount, addedAt, added, added-none, added-size}
 
 neg-mul : (x y : ℤ) → negℤ x *ℤ y ≡ x *ℤ negℤ y
 neg-mul (pos zero) y = zero-*ℤ y ∙ sym (zero-*ℤ (negℤ y))
@@ -42,6 +42,32 @@ turned-mul t x y = by (isCall t) (isPut t)
     by false true = neg-mul x y
     by false false = zero-*ℤ y ∙ sym (*ℤ-zero x)
 
+-- what a position adds: an open one, from the closing price on; an exercised or assigned one, from the underlying price on
+abbrev pub openAdded : List ℕ → ℕ → List ℤ → ℤ → List ℤ
+openAdded d s at net = added at (net *ℤ pos (multiplier d s)) (closing d s) (tabulate 10 (theoretical d s))
+
+abbrev pub exercisedAdded : List ℕ → ℕ → ℕ → List ℤ → ℤ → List ℤ
+exercisedAdded d c s at net = added at (turned (seriesType d s) (net *ℤ pos (multiplier d s))) (underlying d c) (tabulate 10 (projected d c))
+
+module _ (d : List ℕ) (s : ℕ) (net : ℤ) where
+  pub contracts-small : natAbs net * multiplier d s ≤ 2560000000 → natAbs (net *ℤ pos (multiplier d s)) ≤ 2560000000
+  contracts-small h = omega (arith, natAbs-* net (pos (multiplier d s)))
+
+  pub turned-small : (t : ℕ) → natAbs net * multiplier d s ≤ 2560000000 → natAbs (turned t (net *ℤ pos (multiplier d s))) ≤ 2560000000
+  turned-small t h = omega (arith, turned-abs t (net *ℤ pos (multiplier d s)), contracts-small h)
+
+  -- no net adds none
+  no-contracts : natAbs net ≤ 0 → natAbs (net *ℤ pos (multiplier d s)) ≤ 0
+  no-contracts h = omega (arith, natAbs-*-le net (pos (multiplier d s)) 0 (multiplier d s) h (le-refl (multiplier d s)))
+
+  pub open-none : (at : List ℤ) → natAbs net ≤ 0 → length at ≡ 10 → at ≡ openAdded d s at net
+  open-none at h l = added-none (net *ℤ pos (multiplier d s)) at (closing d s) (tabulate 10 (theoretical d s)) (no-contracts h) l
+
+  pub exercised-none : (c : ℕ) (at : List ℤ) → natAbs net ≤ 0 → length at ≡ 10 → at ≡ exercisedAdded d c s at net
+  exercised-none c at h l =
+      added-none (turned (seriesType d s) (net *ℤ pos (multiplier d s))) at (underlying d c) (tabulate 10 (projected d c))
+      (omega (arith, turned-abs (seriesType d s) (net *ℤ pos (multiplier d s)), no-contracts h)) l
+
 -- the two positions of a series, one after the other
 module _ (d : List ℕ) (n : ℕ → ℤ) (k c s : ℕ) (at : List ℤ) where
   abbrev z : ℤ
@@ -50,7 +76,7 @@ module _ (d : List ℕ) (n : ℕ → ℤ) (k c s : ℕ) (at : List ℤ) where
   abbrev x : ℤ
   x = exercisedNet n k s *ℤ pos (multiplier d s)
 
-  pub both-added : added (added at z (closing d s) (tabulate 10 (theoretical d s))) (turned (seriesType d s) x) (underlying d c) (tabulate 10 (projected d c))
+  pub both-added : exercisedAdded d c s (openAdded d s at (countedNet d n k c s)) (exercisedNet n k s)
       ≡ tabulate 10 (λ j. getD at j (pos 0) +ℤ pointOf d n k c j s)
   both-added =
       tabulate-ext 10 _ (λ j. getD at j (pos 0) +ℤ pointOf d n k c j s)
@@ -75,15 +101,6 @@ module _ (d : List ℕ) (nets : List ℤ) (w : Given d nets) (k c s : ℕ) (hk :
   counted-size =
       le-trans (mul-le-mul (counted-bound d (entry nets) (w .dvp) (w .day .rows) (w .budget) k hk c hc s) (le-refl (multiplier d s)))
       (contracts-size d nets w k 0 s hk (omega arith) hs)
-
-  pub exercised-size : natAbs (turned (seriesType d s) (exercisedNet (entry nets) k s *ℤ pos (multiplier d s))) ≤ 2560000000
-  exercised-size =
-      omega (
-        arith,
-        turned-abs (seriesType d s) (exercisedNet (entry nets) k s *ℤ pos (multiplier d s)),
-        natAbs-* (exercisedNet (entry nets) k s) (pos (multiplier d s)),
-        contracts-size d nets w k 1 s hk (omega arith) hs,
-      )
 
 -- ---- the class
 
@@ -125,3 +142,10 @@ module _ (d : List ℕ) (r : DayRows d) where
   pub projected-limit : (c : ℕ) → c < classCount d → (j : ℕ) → j < 10 → getD (tabulate 10 (projected d c)) j 0 ≤ 500000000
   projected-limit c h j l =
       rw (getD-tabulate 10 (projected d c) j 0 l) (class-price d r c h (10 + j) (omega arith) (λ z. omega arith) (λ z. omega arith))
+
+  -- the amounts after the open position
+  pub opened-size : (s : ℕ) (at : List ℤ) (net : ℤ) → s < seriesCount d → natAbs net * multiplier d s ≤ 2560000000
+      → ((j : ℕ) → j < 10 → natAbs (getD at j (pos 0)) ≤ 1280000000000000000)
+      → (j : ℕ) → j < 10 → natAbs (getD (openAdded d s at net) j (pos 0)) ≤ 4000000000000000000
+  opened-size s at net h q a =
+      added-size at (net *ℤ pos (multiplier d s)) (closing d s) (tabulate 10 (theoretical d s)) (contracts-small d s net q) (closing-limit d r s h) (theoretical-limit s h) a

@@ -9,8 +9,9 @@ ghost use Rattle.model.specs.DayFile.{classCount, seriesCount, seriesType, isFu
 ghost use Rattle.model.specs.Steps.Classes.{turned};
 ghost use Rattle.model.specs.Steps.Spread.{spreadQuantity, shortBefore, longBefore};
 ghost use Rattle.model.specs.Steps.Points.{pointOf};
-ghost use Rattle.classes.specs.Tables.{entry, Given};
+ghost use Rattle.classes.specs.Tables.{entry, Day, Given};
 ghost use Rattle.spread.specs.Sides.{nonSpreadOf};
+ghost use Rattle.points.specs.Series.{openAdded, exercisedAdded};
 use crate::accumulator::Points;
 use crate::accumulator::Position;
 use classes::fields;
@@ -54,6 +55,32 @@ fn counted_net(day: &[u32], s: usize, net: i64, quantity: i64, before: Sides) ->
     spread::left::non_spread(quantity, before, net)
 }
 
+// The ten amounts with those of an open position; a net of 0 adds none, and its prices are not read.
+fn add_open(points: Points, day: &[u32], s: usize, net: i64) -> Points
+    requires { ⌜ Day (now day) ⌝ }
+    requires { ⌜ (s < seriesCount (now day)) × (natAbs net * multiplier (now day) s ≤ 2560000000) ⌝ }
+    requires { ⌜ ((k : ℕ) → k < 10 → natAbs (getD (points .at) k (pos 0)) ≤ 4000000000000000000) ⌝ }
+    ensures { λ r. ⌜ r .at ≡ openAdded (now (day .entry)) s (points .at) net ⌝ }
+{
+    if !amounts::not_zero(net) {
+        return points;
+    }
+    points.add(open_position(day, s, net))
+}
+
+// The same of an exercised or assigned position.
+fn add_exercised(points: Points, day: &[u32], c: usize, s: usize, net: i64) -> Points
+    requires { ⌜ Day (now day) ⌝ }
+    requires { ⌜ (c < classCount (now day)) × (s < seriesCount (now day)) × (natAbs net * multiplier (now day) s ≤ 2560000000) ⌝ }
+    requires { ⌜ ((k : ℕ) → k < 10 → natAbs (getD (points .at) k (pos 0)) ≤ 4000000000000000000) ⌝ }
+    ensures { λ r. ⌜ r .at ≡ exercisedAdded (now (day .entry)) c s (points .at) net ⌝ }
+{
+    if !amounts::not_zero(net) {
+        return points;
+    }
+    points.add(exercised_position(day, c, s, net))
+}
+
 // The ten amounts with those of both positions of series s.
 pub fn add_series(
     points: Points,
@@ -73,8 +100,6 @@ pub fn add_series(
     ensures { λ r. ⌜ r .at ≡ tabulate 10 (λ k. getD (points .at) k (pos 0) +ℤ pointOf (now (day .entry)) (entry (now (nets .entry))) book c k s) ⌝ }
 {
     let net = fields::position_amount(nets, book, 0, s);
-    let open = open_position(day, s, counted_net(day, s, net, quantity, before));
-    let exercised = exercised_position(day, c, s, fields::position_amount(nets, book, 1, s));
-    let next = points.add(open);
-    next.add(exercised)
+    let next = add_open(points, day, s, counted_net(day, s, net, quantity, before));
+    add_exercised(next, day, c, s, fields::position_amount(nets, book, 1, s))
 }

@@ -15,7 +15,7 @@ use Rattle.model.specs.Steps.Classes.{securityOf, optionOf, worth}
 use Rattle.model.specs.Steps.Mtm.{mtmOf, mtm}
 use Rattle.model.specs.Steps.Premium.{inTheMoney, premiumOf, premium}
 use Rattle.model.proofs.Accepted.{DayRows}
-use Rattle.model.proofs.Limits.{class-price, series-price}
+use Rattle.model.proofs.Limits.{underlying-limit, series-price, closing-limit}
 use Rattle.model.proofs.Records.{Budget}
 use Rattle.model.proofs.Bounds.{worth-bound, turned-abs}
 use Rattle.classes.specs.Tables.{entry, Given}
@@ -71,13 +71,10 @@ module _ (d : List ℕ) (n v : ℕ → ℤ) (k c a b : ℕ) (r : Range d c a b) 
 
 -- ---- sizes
 
-pub closing-limit : (d : List ℕ) → DayRows d → (s : ℕ) → s < seriesCount d → closing d s ≤ 500000000
-closing-limit d r s h = series-price d r s h 3 (omega arith) (λ z. omega arith) (λ z. omega arith)
-
 pub money-size : (d : List ℕ) → DayRows d → (c s : ℕ) → c < classCount d → s < seriesCount d
     → (natAbs (pos (underlying d c) -ℤ pos (strike d s)) ≤ 500000000) × (natAbs (inTheMoney d c s) ≤ 500000000)
 money-size d r c s hc hs =
-    let h = natAbs-pos-sub (underlying d c) (strike d s) 500000000 (class-price d r c hc 1 (omega arith) (λ z. omega arith) (λ z. omega arith))
+    let h = natAbs-pos-sub (underlying d c) (strike d s) 500000000 (underlying-limit d r c hc)
     (series-price d r s hs 2 (omega arith) (λ z. omega arith) (λ z. omega arith)) in
     (h, omega (arith, h, turned-abs (seriesType d s) (pos (underlying d c) -ℤ pos (strike d s))))
 

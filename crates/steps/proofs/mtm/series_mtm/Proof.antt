@@ -14,7 +14,8 @@ use Rattle.model.specs.Steps.Classes.{worth}
 use Rattle.model.specs.Steps.Mtm.{mtmOf}
 use Rattle.classes.specs.Tables.{entry}
 use Rattle.classes.specs.Sizes.{contracts-size}
-use Rattle.steps.specs.Laws.{none-if, some-if, closing-limit, mtm-fits}
+use Rattle.model.proofs.Limits.{closing-limit}
+use Rattle.steps.specs.Laws.{none-if, some-if, mtm-fits}
 use Rattle.steps.proofs.mtm.series_mtm.Statement.{statement}
 use Rattle.steps.proofs.mtm.series_mtm.Tie as tie
 

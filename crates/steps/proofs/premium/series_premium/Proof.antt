@@ -14,7 +14,8 @@ use Rattle.model.specs.Steps.Classes.{worth}
 use Rattle.model.specs.Steps.Premium.{inTheMoney, premiumOf}
 use Rattle.classes.specs.Tables.{entry}
 use Rattle.classes.specs.Sizes.{contracts-size}
-use Rattle.steps.specs.Laws.{none-if, some-if, closing-limit, money-size, premium-fits}
+use Rattle.model.proofs.Limits.{closing-limit}
+use Rattle.steps.specs.Laws.{none-if, some-if, money-size, premium-fits}
 use Rattle.steps.proofs.premium.series_premium.Statement.{statement}
 use Rattle.steps.proofs.premium.series_premium.Tie as tie
 
