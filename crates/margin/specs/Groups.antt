@@ -6,6 +6,8 @@ use borrow.Author.Tests.{eq-eqb, ne-eqb}
 use lib.Dec.{eqb}
 use lib.IntN.{ℤ, pos, natAbs, _+ℤ_}
 use lib.ListN.{getD}
+use Rattle.points.specs.declared.accumulator.Points.{Points}
+use Rattle.margin.specs.declared.group.Amounts.{Amounts}
 use Rattle.numbers.specs.Sums.{sumWhere, sumWhere-zero, sumWhere-yes, sumWhere-no}
 use Rattle.numbers.specs.Table.{tabulate, getD-tabulate, tabulate-ext}
 use Rattle.model.specs.DayFile.{classCount, group, offset}
@@ -58,92 +60,101 @@ module _ (d : List ℕ) (n : ℕ → ℤ) (k g : ℕ) where
   pub points-no : (c : ℕ) → (group d c ≡ g → ⊥) → pointsOver d n k g c ≡ pointsOver d n k g (c + 1)
   points-no c e = tabulate-ext 10 _ _ (λ j h. over-no d g (offsetPoint d n k j) c e)
 
--- ---- the five amounts of a group together: spread, MTM, premium, minimum, and the ten points
+-- ---- the amounts of a group together: spread, MTM, premium, minimum, and the ten points
 
--- so small that two of them add up within an i64
-pub record Small (s t p q : ℤ) (at : List ℤ) : Type 0 where
-  pub spreadSmall : natAbs s ≤ 1920000000000000000
-  pub mtmSmall : natAbs t ≤ 2560000000000000000
-  pub premiumSmall : natAbs p ≤ 1280000000000000000
-  pub minimumSmall : natAbs q ≤ 1280000000000000000
-  pub pointsSmall : (j : ℕ) → j < 10 → natAbs (getD at j (pos 0)) ≤ 1280000000000000000
+abbrev pub noAmounts : Amounts
+noAmounts = record { spread = pos 0; mtm = pos 0; premium = pos 0; minimum = pos 0; points = record { at = tabulate 10 (λ j. pos 0) } }
 
--- those of the classes of group g below m
-pub record Over (d : List ℕ) (n v : ℕ → ℤ) (k g m : ℕ) (s t p q : ℤ) (at : List ℤ) : Type 0 where
-  pub spreads : s ≡ over d g m (spread d n k)
-  pub mtms : t ≡ over d g m (mtm d n v k)
-  pub premiums : p ≡ over d g m (premium d n k)
-  pub minimums : q ≡ over d g m (minimum d n k)
-  pub points : at ≡ pointsOver d n k g m
+-- two sets of amounts added
+abbrev pub added : Amounts → Amounts → Amounts
+added a b =
+    record {
+      spread = a .spread +ℤ b .spread;
+      mtm = a .mtm +ℤ b .mtm;
+      premium = a .premium +ℤ b .premium;
+      minimum = a .minimum +ℤ b .minimum;
+      points = record { at = tabulate 10 (λ j. getD (a .points .at) j (pos 0) +ℤ getD (b .points .at) j (pos 0)) };
+    }
 
 -- those of class c
-pub record Class (d : List ℕ) (n v : ℕ → ℤ) (k c : ℕ) (s t p q : ℤ) (at : List ℤ) : Type 0 where
-  pub spreads : s ≡ spread d n k c
-  pub mtms : t ≡ mtm d n v k c
-  pub premiums : p ≡ premium d n k c
-  pub minimums : q ≡ minimum d n k c
-  pub points : at ≡ tabulate 10 (λ j. offsetPoint d n k j c)
+abbrev pub classAmounts : List ℕ → (ℕ → ℤ) → (ℕ → ℤ) → ℕ → ℕ → Amounts
+classAmounts d n v k c =
+    record {
+      spread = spread d n k c;
+      mtm = mtm d n v k c;
+      premium = premium d n k c;
+      minimum = minimum d n k c;
+      points = record { at = tabulate 10 (λ j. offsetPoint d n k j c) };
+    }
 
--- a sum of two, amount by amount
-pub record Sum (s t p q : ℤ) (at : List ℤ) (s′ t′ p′ q′ : ℤ) (at′ : List ℤ) (s″ t″ p″ q″ : ℤ) (at″ : List ℤ) : Type 0 where
-  pub spreads : s″ ≡ s +ℤ s′
-  pub mtms : t″ ≡ t +ℤ t′
-  pub premiums : p″ ≡ p +ℤ p′
-  pub minimums : q″ ≡ q +ℤ q′
-  pub points : at″ ≡ tabulate 10 (λ j. getD at j (pos 0) +ℤ getD at′ j (pos 0))
+-- those of the classes of group g below m
+abbrev pub amountsBelow : List ℕ → (ℕ → ℤ) → (ℕ → ℤ) → ℕ → ℕ → ℕ → Amounts
+amountsBelow d n v k g m =
+    record {
+      spread = over d g m (spread d n k);
+      mtm = over d g m (mtm d n v k);
+      premium = over d g m (premium d n k);
+      minimum = over d g m (minimum d n k);
+      points = record { at = pointsOver d n k g m };
+    }
+
+-- so small that two of them add up within an i64
+pub record Small (a : Amounts) : Type 0 where
+  pub spreadSmall : natAbs (a .spread) ≤ 1920000000000000000
+  pub mtmSmall : natAbs (a .mtm) ≤ 2560000000000000000
+  pub premiumSmall : natAbs (a .premium) ≤ 1280000000000000000
+  pub minimumSmall : natAbs (a .minimum) ≤ 1280000000000000000
+  pub pointsSmall : (j : ℕ) → j < 10 → natAbs (getD (a .points .at) j (pos 0)) ≤ 1280000000000000000
 
 module _ (d : List ℕ) (n v : ℕ → ℤ) (k g : ℕ) where
-  pub none-over : (s t p q : ℤ) (at : List ℤ) → s ≡ pos 0 → t ≡ pos 0 → p ≡ pos 0 → q ≡ pos 0 → at ≡ tabulate 10 (λ j. pos 0) → Over d n v k g 0 s t p q at
-  none-over s t p q at a b c e f =
+  pub none-below : noAmounts ≡ amountsBelow d n v k g 0
+  none-below = λ i.
       record {
-        spreads = a ∙ over-none d g (spread d n k);
-        mtms = b ∙ over-none d g (mtm d n v k);
-        premiums = c ∙ over-none d g (premium d n k);
-        minimums = e ∙ over-none d g (minimum d n k);
-        points = f ∙ points-none d n k g;
+        spread = over-none d g (spread d n k) i;
+        mtm = over-none d g (mtm d n v k) i;
+        premium = over-none d g (premium d n k) i;
+        minimum = over-none d g (minimum d n k) i;
+        points = record { at = points-none d n k g i };
       }
 
-  pub class-skipped : (c : ℕ) (s t p q : ℤ) (at : List ℤ) → (group d c ≡ g → ⊥) → Over d n v k g c s t p q at → Over d n v k g (c + 1) s t p q at
-  class-skipped c s t p q at e o =
+  pub class-skipped : (c : ℕ) → (group d c ≡ g → ⊥) → amountsBelow d n v k g c ≡ amountsBelow d n v k g (c + 1)
+  class-skipped c e = λ i.
       record {
-        spreads = o .spreads ∙ over-no d g (spread d n k) c e;
-        mtms = o .mtms ∙ over-no d g (mtm d n v k) c e;
-        premiums = o .premiums ∙ over-no d g (premium d n k) c e;
-        minimums = o .minimums ∙ over-no d g (minimum d n k) c e;
-        points = o .points ∙ points-no d n k g c e;
+        spread = over-no d g (spread d n k) c e i;
+        mtm = over-no d g (mtm d n v k) c e i;
+        premium = over-no d g (premium d n k) c e i;
+        minimum = over-no d g (minimum d n k) c e i;
+        points = record { at = points-no d n k g c e i };
       }
 
-  pub class-added : (c : ℕ) (s t p q : ℤ) (at : List ℤ) (s′ t′ p′ q′ : ℤ) (at′ : List ℤ) (s″ t″ p″ q″ : ℤ) (at″ : List ℤ) → group d c ≡ g
-      → Over d n v k g c s t p q at → Class d n v k c s′ t′ p′ q′ at′ → Sum s t p q at s′ t′ p′ q′ at′ s″ t″ p″ q″ at″
-      → Over d n v k g (c + 1) s″ t″ p″ q″ at″
-  class-added c s t p q at s′ t′ p′ q′ at′ s″ t″ p″ q″ at″ e o x y =
+  pub class-added : (c : ℕ) → group d c ≡ g → added (amountsBelow d n v k g c) (classAmounts d n v k c) ≡ amountsBelow d n v k g (c + 1)
+  class-added c e = λ i.
       record {
-        spreads = y .spreads ∙ (λ i. o .spreads i +ℤ x .spreads i) ∙ over-yes d g (spread d n k) c e;
-        mtms = y .mtms ∙ (λ i. o .mtms i +ℤ x .mtms i) ∙ over-yes d g (mtm d n v k) c e;
-        premiums = y .premiums ∙ (λ i. o .premiums i +ℤ x .premiums i) ∙ over-yes d g (premium d n k) c e;
-        minimums = y .minimums ∙ (λ i. o .minimums i +ℤ x .minimums i) ∙ over-yes d g (minimum d n k) c e;
-        points =
-            y .points ∙ (λ i. tabulate 10 (λ j. getD (o .points i) j (pos 0) +ℤ getD (x .points i) j (pos 0))) ∙ points-yes d n k g c e;
+        spread = over-yes d g (spread d n k) c e i;
+        mtm = over-yes d g (mtm d n v k) c e i;
+        premium = over-yes d g (premium d n k) c e i;
+        minimum = over-yes d g (minimum d n k) c e i;
+        points = record { at = points-yes d n k g c e i };
       }
 
   module _ (r : DayRows d) (w : Budget d n v) (hk : k < 2) where
-    pub over-small : (m : ℕ) (s t p q : ℤ) (at : List ℤ) → g < 29 → m ≤ classCount d → Over d n v k g m s t p q at → Small s t p q at
-    over-small m s t p q at hg hm o =
+    pub below-small : (m : ℕ) → g < 29 → m ≤ classCount d → Small (amountsBelow d n v k g m)
+    below-small m hg hm =
         record {
-          spreadSmall = rw (o .spreads) (spread-over d n v r w k g m hk hg hm);
-          mtmSmall = rw (o .mtms) (mtm-over d n v r w k g m hk hg hm);
-          premiumSmall = rw (o .premiums) (premium-over d n v r w k g m hk hg hm);
-          minimumSmall = rw (o .minimums) (minimum-over d n v r w k g m hk hg hm);
+          spreadSmall = spread-over d n v r w k g m hk hg hm;
+          mtmSmall = mtm-over d n v r w k g m hk hg hm;
+          premiumSmall = premium-over d n v r w k g m hk hg hm;
+          minimumSmall = minimum-over d n v r w k g m hk hg hm;
           pointsSmall =
-              λ j h. rw (o .points, getD-tabulate 10 (λ j. over d g m (offsetPoint d n k j)) j (pos 0) h) (point-over d n v r w k g m hk hg hm j h);
+              λ j h. rw (getD-tabulate 10 (λ j. over d g m (offsetPoint d n k j)) j (pos 0) h) (point-over d n v r w k g m hk hg hm j h);
         }
 
-    pub class-small : (c : ℕ) (s t p q : ℤ) (at : List ℤ) → c < classCount d → Class d n v k c s t p q at → Small s t p q at
-    class-small c s t p q at hc x =
+    pub class-small : (c : ℕ) → c < classCount d → Small (classAmounts d n v k c)
+    class-small c hc =
         record {
-          spreadSmall = rw (x .spreads) (class-spread d n v r w k c hk hc);
-          mtmSmall = rw (x .mtms) (class-mtm d n v r w k c hk hc);
-          premiumSmall = rw (x .premiums) (class-premium d n v r w k c hk hc);
-          minimumSmall = rw (x .minimums) (class-minimum d n v r w k c hk hc);
-          pointsSmall = λ j h. rw (x .points, getD-tabulate 10 (λ j. offsetPoint d n k j c) j (pos 0) h) (class-offset d n v r w k c hk hc j h);
+          spreadSmall = class-spread d n v r w k c hk hc;
+          mtmSmall = class-mtm d n v r w k c hk hc;
+          premiumSmall = class-premium d n v r w k c hk hc;
+          minimumSmall = class-minimum d n v r w k c hk hc;
+          pointsSmall = λ j h. rw (getD-tabulate 10 (λ j. offsetPoint d n k j c) j (pos 0) h) (class-offset d n v r w k c hk hc j h);
         }

@@ -8,12 +8,14 @@ use lib.ListN.{getD}
 use Rattle.numbers.specs.Abs.{natAbs-+}
 use Rattle.numbers.specs.Extremes.{maxZ, largest, largest-ext, largest-abs, max-abs}
 use Rattle.numbers.specs.Table.{getD-tabulate}
+use Rattle.margin.specs.declared.group.Amounts.{Amounts}
+use Rattle.points.specs.declared.accumulator.Points.{Points}
 use Rattle.model.specs.DayFile.{classCount}
 use Rattle.model.specs.Steps.Classes.{overClasses}
 use Rattle.model.specs.Steps.Additional.{groupPoint, additional}
 use Rattle.model.specs.Steps.Minimum.{groupMinimum, requirement}
 use Rattle.model.specs.Steps.Margin.{marginOf, residualOf, groupSpread, groupMtm, groupPremium, groupSum, margin, residual, lineAmounts}
-use Rattle.margin.specs.Groups.{offsetPoint, over, Over, Small}
+use Rattle.margin.specs.Groups.{offsetPoint, over, amountsBelow, Small}
 
 -- additional requirement of ten sums and a minimum
 abbrev pub requirementOf : List ℤ → ℤ → ℤ
@@ -22,29 +24,32 @@ requirementOf at q = maxZ (largest 10 (λ j. getD at j (pos 0))) q
 abbrev pub sumOf : ℤ → ℤ → ℤ → ℤ → ℤ
 sumOf s t p r = s +ℤ t +ℤ p +ℤ r
 
-module _ (d : List ℕ) (n v : ℕ → ℤ) (k g : ℕ) (s t p q : ℤ) (at : List ℤ) (o : Over d n v k g (classCount d) s t p q at) where
-  additional-is : largest 10 (λ j. getD at j (pos 0)) ≡ additional d n k g
+module _ (d : List ℕ) (n v : ℕ → ℤ) (k g : ℕ) (a : Amounts) (o : a ≡ amountsBelow d n v k g (classCount d)) where
+  additional-is : largest 10 (λ j. getD (a .points .at) j (pos 0)) ≡ additional d n k g
   unfolding additional groupPoint overClasses
   additional-is =
-      largest-ext 10 (λ j. getD at j (pos 0)) (groupPoint d n k g)
-      (λ j h. ap (λ (l : List ℤ). getD l j (pos 0)) (o .points) ∙ getD-tabulate 10 (λ j. over d g (classCount d) (offsetPoint d n k j)) j (pos 0) h)
+      largest-ext 10 (λ j. getD (a .points .at) j (pos 0)) (groupPoint d n k g)
+      (λ j h. ap (λ (x : Amounts). getD (x .points .at) j (pos 0)) o ∙ getD-tabulate 10 (λ j. over d g (classCount d) (offsetPoint d n k j)) j (pos 0) h)
 
-  requirement-is : requirementOf at q ≡ requirement d n k g
+  requirement-is : requirementOf (a .points .at) (a .minimum) ≡ requirement d n k g
   unfolding requirement groupMinimum overClasses
-  requirement-is = λ i. maxZ (additional-is i) (o .minimums i)
+  requirement-is = λ i. maxZ (additional-is i) (o i .minimum)
 
-  sum-is : sumOf s t p (requirementOf at q) ≡ groupSum d n v k g
+  abbrev total : ℤ
+  total = sumOf (a .spread) (a .mtm) (a .premium) (requirementOf (a .points .at) (a .minimum))
+
+  sum-is : total ≡ groupSum d n v k g
   unfolding groupSum groupSpread groupMtm groupPremium overClasses
-  sum-is = λ i. sumOf (o .spreads i) (o .mtms i) (o .premiums i) (requirement-is i)
+  sum-is = λ i. sumOf (o i .spread) (o i .mtm) (o i .premium) (requirement-is i)
 
-  pub line-is : (s ∷ t ∷ p ∷ requirementOf at q ∷ marginOf (sumOf s t p (requirementOf at q)) ∷ residualOf (sumOf s t p (requirementOf at q)) ∷ []) ≡ lineAmounts d n v k g
+  pub line-is : (a .spread ∷ a .mtm ∷ a .premium ∷ requirementOf (a .points .at) (a .minimum) ∷ marginOf total ∷ residualOf total ∷ []) ≡ lineAmounts d n v k g
   unfolding lineAmounts groupSpread groupMtm groupPremium overClasses margin residual
-  line-is = λ i. o .spreads i ∷ o .mtms i ∷ o .premiums i ∷ requirement-is i ∷ marginOf (sum-is i) ∷ residualOf (sum-is i) ∷ []
+  line-is = λ i. o i .spread ∷ o i .mtm ∷ o i .premium ∷ requirement-is i ∷ marginOf (sum-is i) ∷ residualOf (sum-is i) ∷ []
 
-module _ (s t p q : ℤ) (at : List ℤ) (w : Small s t p q at) where
-  pub requirement-size : natAbs (requirementOf at q) ≤ 1280000000000000000
-  requirement-size =
-      max-abs (largest 10 (λ j. getD at j (pos 0))) q 1280000000000000000 (largest-abs 10 (λ j. getD at j (pos 0)) 1280000000000000000 (w .pointsSmall)) (w .minimumSmall)
+pub requirement-size : (a : Amounts) → Small a → natAbs (requirementOf (a .points .at) (a .minimum)) ≤ 1280000000000000000
+requirement-size a w =
+    max-abs (largest 10 (λ j. getD (a .points .at) j (pos 0))) (a .minimum) 1280000000000000000
+    (largest-abs 10 (λ j. getD (a .points .at) j (pos 0)) 1280000000000000000 (w .pointsSmall)) (w .minimumSmall)
 
 -- the sums on the way
 module _ (s t p r : ℤ) (hs : natAbs s ≤ 1920000000000000000) (ht : natAbs t ≤ 2560000000000000000) (hp : natAbs p ≤ 1280000000000000000)

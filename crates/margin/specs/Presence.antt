@@ -10,8 +10,10 @@ use lib.Dec.{eqb}
 use lib.IntN.{ℤ}
 use Rattle.numbers.specs.declared.Found.{Found}
 use Rattle.numbers.specs.declared.Found.the-variants.{At, Nothing}
+use Rattle.numbers.specs.Flags.{flag, flags}
 use Rattle.numbers.specs.Lists.{nothing-hit}
 use Rattle.numbers.specs.Scan.{firstBad, hit, anyBelow, first-at, first-clear, first-none, first-some}
+use Rattle.numbers.specs.Table.{tabulate, tabulate-ext}
 use Rattle.model.specs.DayFile.{classCount, seriesCount, seriesClass, seriesGroup, group}
 use Rattle.model.specs.Netting.{position}
 use Rattle.model.specs.Steps.Positions.{held}
@@ -28,8 +30,16 @@ heldAt n v k s = held n v (position k 0 s) || held n v (position k 1 s)
 abbrev pub anyHeld : (ℕ → ℤ) → (ℕ → ℤ) → ℕ → ℕ → ℕ → Bool
 anyHeld n v k a m = anyBelow m (λ i. heldAt n v k (a + i))
 
-abbrev pub classHeld : List ℕ → (ℕ → ℤ) → (ℕ → ℤ) → ℕ → ℕ → ℕ → Bool
-classHeld d n v k g c = eqb (group d c) g && anyHeld n v k (startOf d c) (startOf d (c + 1) - startOf d c)
+-- a position of class c
+abbrev pub classHeld : List ℕ → (ℕ → ℤ) → (ℕ → ℤ) → ℕ → ℕ → Bool
+classHeld d n v k c = anyHeld n v k (startOf d c) (startOf d (c + 1) - startOf d c)
+
+abbrev groupHeld : List ℕ → (ℕ → ℤ) → (ℕ → ℤ) → ℕ → ℕ → ℕ → Bool
+groupHeld d n v k g c = eqb (group d c) g && classHeld d n v k c
+
+-- by group, of the classes below m
+abbrev pub groupsTo : List ℕ → (ℕ → ℤ) → (ℕ → ℤ) → ℕ → ℕ → List Bool
+groupsTo d n v k m = flags 32 (group d) (classHeld d n v k) m
 
 module _ (d : List ℕ) (n v : ℕ → ℤ) (k g : ℕ) (r : DayRows d) where
   -- a series in its class's range
@@ -49,7 +59,7 @@ module _ (d : List ℕ) (n v : ℕ → ℤ) (k g : ℕ) (r : DayRows d) where
   in-class s = refl
 
   -- a class held has a series held
-  some-series : (c : ℕ) → c < classCount d → classHeld d n v k g c ≡ true → anyBelow (seriesCount d) (heldIn d n v k g) ≡ true
+  some-series : (c : ℕ) → c < classCount d → groupHeld d n v k g c ≡ true → anyBelow (seriesCount d) (heldIn d n v k g) ≡ true
   some-series c h e = by (firstBad (λ i. heldAt n v k (startOf d c + i)) (startOf d (c + 1) - startOf d c)) refl (and-right (eqb (group d c) g) _ e)
     where
       by : (f : Found) → firstBad (λ i. heldAt n v k (startOf d c + i)) (startOf d (c + 1) - startOf d c) ≡ f → hit f ≡ true
@@ -65,7 +75,7 @@ module _ (d : List ℕ) (n v : ℕ → ℤ) (k g : ℕ) (r : DayRows d) where
       by Nothing p q = absurd (true≢false (sym q))
 
   -- with no class held no series is
-  no-series : ((c : ℕ) → c < classCount d → classHeld d n v k g c ≡ false) → (s : ℕ) → s < seriesCount d → heldIn d n v k g s ≡ false
+  no-series : ((c : ℕ) → c < classCount d → groupHeld d n v k g c ≡ false) → (s : ℕ) → s < seriesCount d → heldIn d n v k g s ≡ false
   no-series none s h = in-class s ∙ by (ℕ-discrete (group d c) g)
     where
       c : ℕ
@@ -86,10 +96,13 @@ module _ (d : List ℕ) (n v : ℕ → ℤ) (k g : ℕ) (r : DayRows d) where
           and-in (eqb (group d (seriesClass d s)) g) (heldAt n v k s) t ∙ ap (heldAt n v k) (sym x) ∙ z
       by (no e) = and-out (eqb (group d (seriesClass d s)) g) (heldAt n v k s) (ne-eqb (group d (seriesClass d s)) g e)
 
-  pub line-by-class : anyBelow (classCount d) (classHeld d n v k g) ≡ hasLine d n v k g
+  line-by-class : anyBelow (classCount d) (groupHeld d n v k g) ≡ hasLine d n v k g
   unfolding hasLine
-  line-by-class = by (firstBad (classHeld d n v k g) (classCount d)) refl
+  line-by-class = by (firstBad (groupHeld d n v k g) (classCount d)) refl
     where
-      by : (f : Found) → firstBad (classHeld d n v k g) (classCount d) ≡ f → hit f ≡ anyBelow (seriesCount d) (heldIn d n v k g)
-      by (At c) e = let z = first-at (classHeld d n v k g) (classCount d) c e in sym (some-series c (z .0) (z .1))
-      by Nothing e = sym (ap hit (first-none (heldIn d n v k g) (seriesCount d) (no-series (first-clear (classHeld d n v k g) (classCount d) e))))
+      by : (f : Found) → firstBad (groupHeld d n v k g) (classCount d) ≡ f → hit f ≡ anyBelow (seriesCount d) (heldIn d n v k g)
+      by (At c) e = let z = first-at (groupHeld d n v k g) (classCount d) c e in sym (some-series c (z .0) (z .1))
+      by Nothing e = sym (ap hit (first-none (heldIn d n v k g) (seriesCount d) (no-series (first-clear (groupHeld d n v k g) (classCount d) e))))
+
+pub groups-are : (d : List ℕ) (n v : ℕ → ℤ) (k : ℕ) → DayRows d → groupsTo d n v k (classCount d) ≡ tabulate 32 (hasLine d n v k)
+groups-are d n v k r = tabulate-ext 32 (flag (group d) (classHeld d n v k) (classCount d)) (hasLine d n v k) (λ g h. line-by-class d n v k g r)

@@ -1,14 +1,12 @@
 // What a group has before the larger of additional and minimum is taken: its classes' amounts added.
 ghost use mathlib.Core.Path.{_≡_};
 ghost use Prim.Native.Nat.{_+_, _<_};
-ghost use lib.IntN.{pos};
-ghost use Rattle.numbers.specs.Table.{tabulate};
 ghost use Rattle.model.specs.DayFile.{classCount};
 ghost use Rattle.model.proofs.Records.{Budget};
 ghost use Rattle.classes.specs.Tables.{entry, Given};
 ghost use Rattle.classes.specs.Range.{Range};
 ghost use Rattle.classes.specs.Starts.{startTable};
-ghost use Rattle.margin.specs.Groups.{Small, Class, Over, Sum};
+ghost use Rattle.margin.specs.Groups.{Small, noAmounts, added, classAmounts, amountsBelow};
 use crate::additional;
 use classes::fields;
 use points::accumulator::Points;
@@ -36,7 +34,7 @@ fn class_amounts(
     requires { ⌜ Budget (now day) (entry (now nets)) (entry (now dvps)) ⌝ }
     requires { ⌜ book < 2 ⌝ }
     requires { ⌜ Range (now day) c a b ⌝ }
-    ensures { λ r. ⌜ Class (now (day .entry)) (entry (now (nets .entry))) (entry (now (dvps .entry))) book c (r .spread) (r .mtm) (r .premium) (r .minimum) (r .points .at) ⌝ }
+    ensures { λ r. ⌜ r ≡ classAmounts (now (day .entry)) (entry (now (nets .entry))) (entry (now (dvps .entry))) book c ⌝ }
 {
     let sides = spread::sides::total_sides(day, nets, book, c, a, b);
     let quantity = amounts::smaller(sides.long, sides.short);
@@ -53,7 +51,7 @@ fn class_amounts(
 
 impl Amounts {
     pub fn new() -> Self
-        ensures { λ r. ⌜ (r .spread ≡ pos 0) × (r .mtm ≡ pos 0) × (r .premium ≡ pos 0) × (r .minimum ≡ pos 0) × (r .points .at ≡ tabulate 10 (λ k. pos 0)) ⌝ }
+        ensures { λ r. ⌜ r ≡ noAmounts ⌝ }
     {
         let points = Points::new();
         Amounts {
@@ -67,9 +65,9 @@ impl Amounts {
 
     // Two sets of amounts added, the points one by one.
     pub fn add(self, more: Amounts) -> Self
-        requires { ⌜ Small (self .spread) (self .mtm) (self .premium) (self .minimum) (self .points .at) ⌝ }
-        requires { ⌜ Small (more .spread) (more .mtm) (more .premium) (more .minimum) (more .points .at) ⌝ }
-        ensures { λ r. ⌜ Sum (self .spread) (self .mtm) (self .premium) (self .minimum) (self .points .at) (more .spread) (more .mtm) (more .premium) (more .minimum) (more .points .at) (r .spread) (r .mtm) (r .premium) (r .minimum) (r .points .at) ⌝ }
+        requires { ⌜ Small self ⌝ }
+        requires { ⌜ Small more ⌝ }
+        ensures { λ r. ⌜ r ≡ added self more ⌝ }
     {
         let points = self.points;
         let others = more.points;
@@ -99,8 +97,8 @@ fn add_class(
     requires { ⌜ Budget (now day) (entry (now nets)) (entry (now dvps)) ⌝ }
     requires { ⌜ (book < 2) × (g < 29) × (c < classCount (now day)) ⌝ }
     requires { ⌜ now starts ≡ startTable (now day) ⌝ }
-    requires { ⌜ Over (now day) (entry (now nets)) (entry (now dvps)) book g c (sum .spread) (sum .mtm) (sum .premium) (sum .minimum) (sum .points .at) ⌝ }
-    ensures { λ r. ⌜ Over (now (day .entry)) (entry (now (nets .entry))) (entry (now (dvps .entry))) book g (c + 1) (r .spread) (r .mtm) (r .premium) (r .minimum) (r .points .at) ⌝ }
+    requires { ⌜ sum ≡ amountsBelow (now day) (entry (now nets)) (entry (now dvps)) book g c ⌝ }
+    ensures { λ r. ⌜ r ≡ amountsBelow (now (day .entry)) (entry (now (nets .entry))) (entry (now (dvps .entry))) book g (c + 1) ⌝ }
 {
     if fields::index(fields::group_of(day, c)) != g {
         return sum;
@@ -123,7 +121,7 @@ pub fn group_amounts(
     requires { ⌜ Budget (now day) (entry (now nets)) (entry (now dvps)) ⌝ }
     requires { ⌜ (book < 2) × (g < 29) ⌝ }
     requires { ⌜ now starts ≡ startTable (now day) ⌝ }
-    ensures { λ r. ⌜ Over (now (day .entry)) (entry (now (nets .entry))) (entry (now (dvps .entry))) book g (classCount (now (day .entry))) (r .spread) (r .mtm) (r .premium) (r .minimum) (r .points .at) ⌝ }
+    ensures { λ r. ⌜ r ≡ amountsBelow (now (day .entry)) (entry (now (nets .entry))) (entry (now (dvps .entry))) book g (classCount (now (day .entry))) ⌝ }
 {
     let classes = fields::class_count(day);
     let mut sum = Amounts::new();

@@ -6,18 +6,15 @@ ghost use lib.IntN.{pos, natAbs, _+ℤ_};
 ghost use lib.ListN.{getD};
 ghost use Rattle.numbers.specs.Extremes.{maxZ, largest};
 ghost use Rattle.model.specs.Steps.Margin.{lineAmounts};
-ghost use Rattle.model.specs.Steps.Lines.{hasLine};
 ghost use Rattle.model.proofs.Accepted.{DayRows};
 ghost use Rattle.model.proofs.Records.{Budget};
 ghost use Rattle.classes.specs.Tables.{entry};
 ghost use Rattle.classes.specs.Starts.{startTable};
 use crate::additional;
 use crate::group;
-use crate::presence;
 use points::accumulator::Points;
 
 pub struct Line {
-    pub present: bool,
     pub spread: i64,
     pub mtm: i64,
     pub premium: i64,
@@ -57,15 +54,13 @@ pub fn group_line(
     requires { ⌜ Budget (now day) (entry (now nets)) (entry (now dvps)) ⌝ }
     requires { ⌜ (book < 2) × (g < 29) ⌝ }
     requires { ⌜ now starts ≡ startTable (now day) ⌝ }
-    ensures { λ r. ⌜ (r .present ≡ hasLine (now (day .entry)) (entry (now (nets .entry))) (entry (now (dvps .entry))) book g) × ((r .spread ∷ r .mtm ∷ r .premium ∷ r .requirement ∷ r .margin ∷ r .residual ∷ []) ≡ lineAmounts (now (day .entry)) (entry (now (nets .entry))) (entry (now (dvps .entry))) book g) ⌝ }
+    ensures { λ r. ⌜ (r .spread ∷ r .mtm ∷ r .premium ∷ r .requirement ∷ r .margin ∷ r .residual ∷ []) ≡ lineAmounts (now (day .entry)) (entry (now (nets .entry))) (entry (now (dvps .entry))) book g ⌝ }
 {
-    let present = presence::has_line(day, starts, nets, dvps, book, g);
     let sums = group::group_amounts(day, starts, nets, dvps, book, g);
     let points = sums.points;
     let requirement = additional_requirement(points, sums.minimum);
     let total = group_sum(sums.spread, sums.mtm, sums.premium, requirement);
     Line {
-        present: present,
         spread: sums.spread,
         mtm: sums.mtm,
         premium: sums.premium,

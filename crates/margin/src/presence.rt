@@ -2,14 +2,14 @@
 ghost use mathlib.Core.Path.{_≡_};
 ghost use Prim.Native.Nat.{_+_, _≤_, _<_};
 ghost use Rattle.numbers.specs.Scan.{anyBelow};
-ghost use Rattle.model.specs.DayFile.{classCount};
+ghost use Rattle.numbers.specs.Table.{tabulate};
 ghost use Rattle.model.specs.Netting.{position};
 ghost use Rattle.model.specs.Steps.Positions.{held};
 ghost use Rattle.model.specs.Steps.Lines.{hasLine};
 ghost use Rattle.model.proofs.Accepted.{DayRows};
-ghost use Rattle.classes.specs.Tables.{entry, Day};
+ghost use Rattle.classes.specs.Tables.{entry};
 ghost use Rattle.classes.specs.Starts.{startTable};
-ghost use Rattle.margin.specs.Presence.{heldAt, classHeld};
+ghost use Rattle.margin.specs.Presence.{heldAt};
 use classes::fields;
 
 // A position has net or DVP not zero.
@@ -44,50 +44,29 @@ fn any_held(nets: &[i64], dvps: &[i64], book: usize, a: usize, count: usize) -> 
     false
 }
 
-// Class c is of group g and has a position held.
-fn class_held(
+// Which groups have a line in this book, in one pass over the classes.
+pub fn groups_held(
     day: &[u32],
     starts: &[usize; 65],
     nets: &[i64],
     dvps: &[i64],
     book: usize,
-    g: usize,
-    c: usize,
-) -> bool
-    requires { ⌜ Day (now day) ⌝ }
-    requires { ⌜ (book < 2) × (c < classCount (now day)) ⌝ }
-    requires { ⌜ now starts ≡ startTable (now day) ⌝ }
-    ensures { λ r. ⌜ r ≡ classHeld (now (day .entry)) (entry (now (nets .entry))) (entry (now (dvps .entry))) book g c ⌝ }
-{
-    if fields::index(fields::group_of(day, c)) != g {
-        return false;
-    }
-    let a = starts[c];
-    let b = starts[c + 1];
-    any_held(nets, dvps, book, a, b - a)
-}
-
-// Group g has a line in this book.
-pub fn has_line(
-    day: &[u32],
-    starts: &[usize; 65],
-    nets: &[i64],
-    dvps: &[i64],
-    book: usize,
-    g: usize,
-) -> bool
+) -> [bool; 32]
     requires { ⌜ DayRows (now day) ⌝ }
     requires { ⌜ book < 2 ⌝ }
     requires { ⌜ now starts ≡ startTable (now day) ⌝ }
-    ensures { λ r. ⌜ r ≡ hasLine (now (day .entry)) (entry (now (nets .entry))) (entry (now (dvps .entry))) book g ⌝ }
+    ensures { λ r. ⌜ r ≡ tabulate 32 (hasLine (now (day .entry)) (entry (now (nets .entry))) (entry (now (dvps .entry))) book) ⌝ }
 {
     let classes = fields::class_count(day);
+    let mut present = [false; 32];
     let mut c: usize = 0;
     while c < classes {
-        if class_held(day, starts, nets, dvps, book, g, c) {
-            return true;
-        }
+        let g = fields::index(fields::group_of(day, c));
+        let a = starts[c];
+        let b = starts[c + 1];
+        let was = present[g];
+        present[g] = was | any_held(nets, dvps, book, a, b - a);
         c = c + 1;
     }
-    false
+    present
 }

@@ -6,7 +6,7 @@ ghost use Rattle.model.specs.Report.{bookMap};
 ghost use Rattle.classes.specs.Starts.{startTable};
 ghost use Rattle.classes.specs.Tables.{entry};
 ghost use Rattle.model.proofs.Accepted.{DayRows};
-use margin::presence::has_line;
+use margin::presence::groups_held;
 
 // The map with bit g of value `bit`, if it is set.
 fn with_bit(map: u32, bit: u32, set: bool) -> u32
@@ -25,11 +25,12 @@ pub fn book_map(day: &[u32], starts: &[usize; 65], nets: &[i64], dvps: &[i64], b
     requires { ⌜ now starts ≡ startTable (now day) ⌝ }
     ensures { λ r. ⌜ (r ≡ bookMap (now (day .entry)) (entry (now (nets .entry))) (entry (now (dvps .entry))) book) × (r < 2 ^ 29) ⌝ }
 {
+    let held = groups_held(day, starts, nets, dvps, book);
     let mut map: u32 = 0;
     let mut bit: u32 = 1;
     let mut g: usize = 0;
     while g < 29 {
-        map = with_bit(map, bit, has_line(day, starts, nets, dvps, book, g));
+        map = with_bit(map, bit, held[g]);
         bit = bit * 2;
         g = g + 1;
     }

@@ -1,6 +1,6 @@
 use borrow.Author.Needs.{needs}
 use native.Mathlib.Omega.{arith}
-use mathlib.Core.Path.{_≡_, sym, _∙_}
+use mathlib.Core.Path.{_≡_, sym, subst, _∙_}
 use mathlib.Core.List.{List}
 use Prim.Native.Nat.{ℕ, _+_}
 use lib.IntN.{ℤ}
@@ -9,7 +9,7 @@ use Rattle.model.specs.DayFile.{group}
 use Rattle.classes.specs.Tables.{entry}
 use Rattle.classes.specs.Range.{Range}
 use Rattle.classes.specs.Starts.{table-range}
-use Rattle.margin.specs.Groups.{Small, class-skipped, class-added, over-small, class-small}
+use Rattle.margin.specs.Groups.{Small, added, classAmounts, class-skipped, class-added, below-small, class-small}
 use Rattle.margin.proofs.group.add_class.Statement.{statement}
 use Rattle.margin.proofs.group.add_class.Tie as tie
 
@@ -32,9 +32,13 @@ module _ (x : tie.Start) where
   abbrev c : ℕ
   c = x .args .c
 
-  small : Small (x .args .sum .spread) (x .args .sum .mtm) (x .args .sum .premium) (x .args .sum .minimum) (x .args .sum .points .at)
+  small : Small (x .args .sum)
   small =
-      over-small d n v k g (x .pre .0 .day .rows) (x .pre .1 .0) (x .pre .1 .1 .0 .0) c _ _ _ _ _ (x .pre .1 .1 .0 .1) (omega (arith, x .pre .1 .1 .0 .2)) (x .pre .1 .1 .1 .1)
+      subst Small (sym (x .pre .1 .1 .1 .1))
+      (below-small d n v k g (x .pre .0 .day .rows) (x .pre .1 .0) (x .pre .1 .1 .0 .0) c (x .pre .1 .1 .0 .1) (omega (arith, x .pre .1 .1 .0 .2)))
+
+  class-fits : Small (classAmounts d n v k c)
+  class-fits = class-small d n v k g (x .pre .0 .day .rows) (x .pre .1 .0) (x .pre .1 .1 .0 .0) c (x .pre .1 .1 .0 .2)
 
   -- the class's range, from the table
   stretch : Range d c (getD (x .args .starts .now) c 0) (getD (x .args .starts .now) (c + 1) 0)
@@ -46,7 +50,7 @@ group-is p = p .index .ensures ∙ p .before .group-of .ensures
 returns : tie.Need-returns
 returns p =
     let x = p .before .before .before .before in
-    class-skipped (d x) (n x) (v x) (k x) (g x) (c x) _ _ _ _ _ (λ e. p .if1 .taken (group-is (p .before) ∙ e)) (x .pre .1 .1 .1 .1)
+    x .pre .1 .1 .1 .1 ∙ class-skipped (d x) (n x) (v x) (k x) (g x) (c x) (λ e. p .if1 .taken (group-is (p .before) ∙ e))
 
 class-amounts-requires : tie.Need-class-amounts-requires
 class-amounts-requires p κs =
@@ -55,18 +59,16 @@ class-amounts-requires p κs =
 
 add-requires : tie.Need-add-requires
 add-requires p κs =
-    let x = p .before .before .before .before .before .before .before in (
-      small x,
-      class-small (d x) (n x) (v x) (k x) (g x) (x .pre .0 .day .rows) (x .pre .1 .0) (x .pre .1 .1 .0 .0) (c x) _ _ _ _ _ (x .pre .1 .1 .0 .2) (p .class-amounts .ensures),
-    )
+    let x = p .before .before .before .before .before .before .before in
+    (small x, subst Small (sym (p .class-amounts .ensures)) (class-fits x))
 
 returns-2 : tie.Need-returns-2
 returns-2 p =
     let m = p .before in
     let i = m .before .before .before in
     let x = i .before .before .before .before in
-    class-added (d x) (n x) (v x) (k x) (g x) (c x) _ _ _ _ _ _ _ _ _ _ _ _ _ _ _ (sym (group-is (i .before)) ∙ i .if1 .left) (x .pre .1 .1 .1 .1)
-    (m .class-amounts .ensures) (p .add .ensures)
+    p .add .ensures ∙ (λ j. added (x .pre .1 .1 .1 .1 j) (m .class-amounts .ensures j))
+    ∙ class-added (d x) (n x) (v x) (k x) (g x) (c x) (sym (group-is (i .before)) ∙ i .if1 .left)
 
 pub add-class-spec : {M : Type 1} → statement M
 add-class-spec =

@@ -88,15 +88,20 @@ returns p =
     let f = o .before in
     let w = f .before in
     let x = w .before .before .before .before .before .before in
+    λ i.
     record {
-      spreads = told (s .spread .ok) (s .spread .ensures);
-      mtms = told (m .mtm .ok) (m .mtm .ensures);
-      premiums = told (q .premium .ok) (q .premium .ensures);
-      minimums = told (p .minimum .ok) (p .minimum .ensures);
-      points = o .offset .ensures
-          ∙ (λ i. tabulate 10 (λ j. afterOffset (f .class-field .ensures i) (getD (w .class-points .ensures i) j (pos 0))))
-          ∙ tabulate-ext 10 _ (λ j. offsetPoint (d x) (n x) (k x) j (c x))
-          (λ j h. ap (afterOffset (offset (d x) (c x))) (getD-tabulate 10 (classPoint (d x) (n x) (k x) (c x)) j (pos 0) h));
+      spread = told (s .spread .ok) (s .spread .ensures) i;
+      mtm = told (m .mtm .ok) (m .mtm .ensures) i;
+      premium = told (q .premium .ok) (q .premium .ensures) i;
+      minimum = told (p .minimum .ok) (p .minimum .ensures) i;
+      points =
+          record {
+            at =
+                (o .offset .ensures
+                ∙ (λ j. tabulate 10 (λ h. afterOffset (f .class-field .ensures j) (getD (w .class-points .ensures j) h (pos 0))))
+                ∙ tabulate-ext 10 _ (λ j. offsetPoint (d x) (n x) (k x) j (c x))
+                (λ j h. ap (afterOffset (offset (d x) (c x))) (getD-tabulate 10 (classPoint (d x) (n x) (k x) (c x)) j (pos 0) h))) i;
+          };
     }
 
 pub class-amounts-spec : {M : Type 1} → statement M

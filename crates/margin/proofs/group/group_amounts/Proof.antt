@@ -1,16 +1,16 @@
 use borrow.Author.Needs.{needs}
 use native.Mathlib.Omega.{arith}
-use mathlib.Core.Path.{_≡_, subst}
+use mathlib.Core.Path.{_≡_, ap, _∙_}
 use Prim.Native.Nat.{_≤_, _-_}
 use Rattle.model.specs.DayFile.{classCount}
 use Rattle.classes.specs.Tables.{entry}
-use Rattle.margin.specs.Groups.{Over, none-over}
+use Rattle.margin.specs.Groups.{amountsBelow, none-below}
 use Rattle.margin.proofs.group.group_amounts.Statement.{statement}
 use Rattle.margin.proofs.group.group_amounts.Tie as tie
 
 abbrev Inv-loop : tie.InvT-loop
 Inv-loop day starts nets dvps book g classes sum₀ c₀ sum c =
-    (c ≤ classes) × Over day (entry nets) (entry dvps) book g c (sum .spread) (sum .mtm) (sum .premium) (sum .minimum) (sum .points .at)
+    (c ≤ classes) × (sum ≡ amountsBelow day (entry nets) (entry dvps) book g c)
 
 abbrev μ-loop : tie.MeasureT-loop
 μ-loop day starts nets dvps book g classes sum₀ c₀ sum c = classes - c
@@ -18,8 +18,7 @@ abbrev μ-loop : tie.MeasureT-loop
 loop-holds : tie.Need-loop-holds Inv-loop μ-loop
 loop-holds p =
     let x = p .before .before .before .args in
-    let e = p .new .ensures in
-    (search needs, none-over (x .day .now) (entry (x .nets .now)) (entry (x .dvps .now)) (x .book) (x .g) _ _ _ _ _ (e .0) (e .1) (e .2) (e .3) (e .4))
+    (search needs, p .new .ensures ∙ none-below (x .day .now) (entry (x .nets .now)) (entry (x .dvps .now)) (x .book) (x .g))
 
 add-class-requires : tie.Need-add-class-requires Inv-loop μ-loop
 add-class-requires p κs =
@@ -35,8 +34,7 @@ returns p =
     let l = p .before in
     let x = l .before .before .before .before .args in
     let e : l .loop .c ≡ classCount (x .day .now) = omega arith in
-    subst (λ m. Over (x .day .now) (entry (x .nets .now)) (entry (x .dvps .now)) (x .book) (x .g) m
-    (l .loop .sum .spread) (l .loop .sum .mtm) (l .loop .sum .premium) (l .loop .sum .minimum) (l .loop .sum .points .at)) e (l .loop .inv .1)
+    l .loop .inv .1 ∙ ap (amountsBelow (x .day .now) (entry (x .nets .now)) (entry (x .dvps .now)) (x .book) (x .g)) e
 
 pub group-amounts-spec : {M : Type 1} → statement M
 group-amounts-spec =

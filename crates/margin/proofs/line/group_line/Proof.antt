@@ -1,8 +1,8 @@
 use borrow.Author.Needs.{needs}
 use native.Mathlib.Omega.{arith}
 use native.Mathlib.Nat.{le-refl}
-use mathlib.Core.Path.{_≡_, refl, ap, _∙_}
-use mathlib.Core.List.{List, [], _∷_}
+use mathlib.Core.Path.{_≡_, refl, sym, subst, ap, _∙_}
+use mathlib.Core.List.{[], _∷_}
 use Prim.Native.Nat.{_≤_}
 use lib.IntN.{ℤ, pos, negℤ, natAbs, _-ℤ_, +ℤ-idl}
 use mir.Syntax.{w64}
@@ -11,7 +11,8 @@ use Rattle.numbers.specs.Abs.{told, back, fits-by, natAbs-neg}
 use Rattle.model.specs.DayFile.{classCount}
 use Rattle.model.specs.Steps.Margin.{marginOf}
 use Rattle.classes.specs.Tables.{entry, given}
-use Rattle.margin.specs.Groups.{Small, over-small}
+use Rattle.margin.specs.declared.group.Amounts.{Amounts}
+use Rattle.margin.specs.Groups.{Small, below-small}
 use Rattle.margin.specs.Lines.{requirementOf, sumOf, line-is, requirement-size, sum-size}
 use Rattle.margin.proofs.line.group_line.Statement.{statement}
 use Rattle.margin.proofs.line.group_line.Tie as tie
@@ -19,63 +20,52 @@ use Rattle.margin.proofs.line.group_line.Tie as tie
 -- the sums over the classes
 module _ (c : tie.After-group-amounts) where
   abbrev x : tie.Start
-  x = c .before .before .before
+  x = c .before .before
 
-  abbrev s : ℤ
-  s = c .group-amounts .result .spread
-
-  abbrev t : ℤ
-  t = c .group-amounts .result .mtm
-
-  abbrev p : ℤ
-  p = c .group-amounts .result .premium
-
-  abbrev q : ℤ
-  q = c .group-amounts .result .minimum
-
-  abbrev at : List ℤ
-  at = c .group-amounts .result .points .at
+  abbrev a : Amounts
+  a = c .group-amounts .result
 
   abbrev r : ℤ
-  r = requirementOf at q
+  r = requirementOf (a .points .at) (a .minimum)
 
-  small : Small s t p q at
+  abbrev z : ℤ
+  z = sumOf (a .spread) (a .mtm) (a .premium) r
+
+  small : Small a
   small =
-      over-small (x .args .day .now) (entry (x .args .nets .now)) (entry (x .args .dvps .now)) (x .args .book) (x .args .g) (x .pre .0) (x .pre .1 .0)
-      (x .pre .1 .1 .0 .0) (classCount (x .args .day .now)) s t p q at (x .pre .1 .1 .0 .1) (le-refl (classCount (x .args .day .now))) (c .group-amounts .ensures)
+      subst Small (sym (c .group-amounts .ensures))
+      (below-small (x .args .day .now) (entry (x .args .nets .now)) (entry (x .args .dvps .now)) (x .args .book) (x .args .g) (x .pre .0) (x .pre .1 .0)
+      (x .pre .1 .1 .0 .0) (classCount (x .args .day .now)) (x .pre .1 .1 .0 .1) (le-refl (classCount (x .args .day .now))))
 
-  spread-is : toZ w64 (ofZ w64 s) ≡ s
+  spread-is : toZ w64 (ofZ w64 (a .spread)) ≡ a .spread
   spread-is = back refl (omega (arith, small .spreadSmall))
 
-  mtm-is : toZ w64 (ofZ w64 t) ≡ t
+  mtm-is : toZ w64 (ofZ w64 (a .mtm)) ≡ a .mtm
   mtm-is = back refl (omega (arith, small .mtmSmall))
 
-  premium-is : toZ w64 (ofZ w64 p) ≡ p
+  premium-is : toZ w64 (ofZ w64 (a .premium)) ≡ a .premium
   premium-is = back refl (omega (arith, small .premiumSmall))
 
   r-size : natAbs r ≤ 1280000000000000000
-  r-size = requirement-size s t p q at small
+  r-size = requirement-size a small
 
-  total-size : natAbs (sumOf s t p r) ≤ 7040000000000000000
-  total-size = sum-size s t p r (small .spreadSmall) (small .mtmSmall) (small .premiumSmall) r-size
+  total-size : natAbs z ≤ 7040000000000000000
+  total-size = sum-size (a .spread) (a .mtm) (a .premium) r (small .spreadSmall) (small .mtmSmall) (small .premiumSmall) r-size
 
 requirement-is : (c : tie.After-additional-requirement) → toZ w64 (ofZ w64 (c .additional-requirement .result)) ≡ r (c .before .before .before)
 requirement-is c =
     let m = c .before .before .before in
     told (c .additional-requirement .ok)
-    (c .additional-requirement .ensures ∙ ap (λ z. requirementOf (at m) z) (back {r = q m} refl (omega (arith, small m .minimumSmall))))
+    (c .additional-requirement .ensures ∙ ap (λ q. requirementOf (a m .points .at) q) (back {r = a m .minimum} refl (omega (arith, small m .minimumSmall))))
 
-total-is : (c : tie.After-group-sum) → toZ w64 (ofZ w64 (c .group-sum .result)) ≡ (let m = c .before .before .before .before .before .before .before in sumOf (s m) (t m) (p m) (r m))
+total-is : (c : tie.After-group-sum) → toZ w64 (ofZ w64 (c .group-sum .result)) ≡ z (c .before .before .before .before .before .before .before)
 total-is c =
     let m = c .before .before .before .before .before .before .before in
     told (c .group-sum .ok)
     (c .group-sum .ensures ∙ (λ i. sumOf (spread-is m i) (mtm-is m i) (premium-is m i) (requirement-is (c .before .before .before .before) i)))
 
-minus-is : (c : tie.After-group-sum)
-    → pos 0 -ℤ toZ w64 (ofZ w64 (c .group-sum .result)) ≡ (let m = c .before .before .before .before .before .before .before in negℤ (sumOf (s m) (t m) (p m) (r m)))
-minus-is c =
-    let m = c .before .before .before .before .before .before .before in
-    ap (λ z. pos 0 -ℤ z) (total-is c) ∙ +ℤ-idl (negℤ (sumOf (s m) (t m) (p m) (r m)))
+minus-is : (c : tie.After-group-sum) → pos 0 -ℤ toZ w64 (ofZ w64 (c .group-sum .result)) ≡ negℤ (z (c .before .before .before .before .before .before .before))
+minus-is c = ap (λ y. pos 0 -ℤ y) (total-is c) ∙ +ℤ-idl (negℤ (z (c .before .before .before .before .before .before .before)))
 
 group-sum-requires : tie.Need-group-sum-requires
 group-sum-requires c κs =
@@ -89,30 +79,27 @@ group-sum-requires c κs =
 sub-requires : tie.Need-sub-requires
 sub-requires c κs =
     let m = c .before .before .before .before .before .before .before .before in
-    fits-by (minus-is (c .before)) (omega (arith, natAbs-neg (sumOf (s m) (t m) (p m) (r m)), total-size m))
+    fits-by (minus-is (c .before)) (omega (arith, natAbs-neg (z m), total-size m))
 
 returns : tie.Need-returns
 returns c =
     let l = c .before in
     let b = l .before in
-    let a = b .before in
-    let u = a .before in
+    let o = b .before in
+    let u = o .before in
     let m = u .before .before .before .before .before .before .before in
-    let y = x m .args in (
-      m .before .has-line .ensures,
-      (λ i. spread-is m i ∷ mtm-is m i ∷ premium-is m i ∷ requirement-is (u .before .before .before .before) i
-          ∷ told (a .larger .ok) (a .larger .ensures ∙ ap marginOf (total-is u)) i
-          ∷ told (l .larger2 .ok) (l .larger2 .ensures ∙ ap marginOf (told (b .sub .ok) (b .sub .ensures ∙ minus-is u))) i ∷ [])
-          ∙ line-is (y .day .now) (entry (y .nets .now)) (entry (y .dvps .now)) (y .book) (y .g) (s m) (t m) (p m) (q m) (at m) (m .group-amounts .ensures),
-    )
+    let y = x m .args in
+    (λ i. spread-is m i ∷ mtm-is m i ∷ premium-is m i ∷ requirement-is (u .before .before .before .before) i
+    ∷ told (o .larger .ok) (o .larger .ensures ∙ ap marginOf (total-is u)) i
+    ∷ told (l .larger2 .ok) (l .larger2 .ensures ∙ ap marginOf (told (b .sub .ok) (b .sub .ensures ∙ minus-is u))) i ∷ [])
+    ∙ line-is (y .day .now) (entry (y .nets .now)) (entry (y .dvps .now)) (y .book) (y .g) (a m) (m .group-amounts .ensures)
 
 pub group-line-spec : {M : Type 1} → statement M
 group-line-spec =
     tie.close
     (tie.spec
-    (λ c κs. let x = c .before in (x .pre .0, (x .pre .1 .1 .0 .0, x .pre .1 .1 .1)))
     (λ c κs.
-    let x = c .before .before in
+    let x = c .before in
     (given (x .args .day .now) (x .args .nets .now) (entry (x .args .dvps .now)) (x .pre .0) (x .pre .1 .0), x .pre .1))
     (λ c κs. search needs)
     group-sum-requires

@@ -63,7 +63,7 @@ module _ (c : tie.After-group-line) where
   held = bit-set (d s) (n s) (v s) (k s) (g s) (s .args .map) (s .pre .1 .1 .0 .1) (s .pre .1 .1 .1 .1 .0) (c .before .before .before .if1 .left)
 
   amounts : (c .group-line .result .spread ∷ c .group-line .result .mtm ∷ c .group-line .result .premium ∷ c .group-line .result .requirement ∷ c .group-line .result .margin ∷ c .group-line .result .residual ∷ []) ≡ lineAmounts (d s) (n s) (v s) (k s) (g s)
-  amounts = c .group-line .ensures .1 ∙ (λ i. lineAmounts (d s) (n s) (v s) (c .before .before .index .ensures i) (c .before .index2 .ensures i))
+  amounts = c .group-line .ensures ∙ (λ i. lineAmounts (d s) (n s) (v s) (c .before .before .index .ensures i) (c .before .index2 .ensures i))
 
   small : Small (lineAmounts (d s) (n s) (v s) (k s) (g s))
   small = line-small (d s) (n s) (v s) (k s) (g s) (s .pre .0) (s .pre .1 .0) (s .pre .1 .1 .0 .0) (s .pre .1 .1 .0 .1)

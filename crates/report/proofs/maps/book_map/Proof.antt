@@ -2,10 +2,12 @@ use borrow.Author.Needs.{needs}
 use native.Mathlib.Omega.{arith}
 use native.Mathlib.Nat.{le-trans}
 use mathlib.Core.Path.{_≡_, refl, sym, ap, _∙_}
-use mathlib.Core.Bool.{Bool}
+use mathlib.Core.Bool.{Bool, false}
 use Prim.Native.Nat.{ℕ, _+_, _*_, _-_, _^_, _≤_, _<_}
 use denote.Ref.{now}
+use lib.ListN.{getD}
 use lib.Pow.{pow-mono}
+use Rattle.numbers.specs.Table.{getD-tabulate}
 use Rattle.numbers.specs.Maps.{mapBelow, map-none, map-lt}
 use Rattle.model.specs.Report.{bookMap}
 use Rattle.model.specs.Steps.Lines.{hasLine}
@@ -15,15 +17,15 @@ use Rattle.report.proofs.maps.book_map.Statement.{statement}
 use Rattle.report.proofs.maps.book_map.Tie as tie
 
 abbrev Inv-loop : tie.InvT-loop
-Inv-loop day starts nets dvps book map₀ bit₀ g₀ map bit g =
+Inv-loop day starts nets dvps book held map₀ bit₀ g₀ map bit g =
     (g ≤ 29) × (map ≡ mapBelow (hasLine day (entry nets) (entry dvps) book) g) × (bit ≡ 2 ^ g)
 
 abbrev μ-loop : tie.MeasureT-loop
-μ-loop day starts nets dvps book map₀ bit₀ g₀ map bit g = 29 - g
+μ-loop day starts nets dvps book held map₀ bit₀ g₀ map bit g = 29 - g
 
 module _ (c : tie.In-loop Inv-loop μ-loop) where
   abbrev t : ℕ → Bool
-  t = hasLine (now (c .before .before .before .args .day)) (entry (now (c .before .before .before .args .nets))) (entry (now (c .before .before .before .args .dvps))) (c .before .before .before .args .book)
+  t = hasLine (now (c .before .before .before .before .args .day)) (entry (now (c .before .before .before .before .args .nets))) (entry (now (c .before .before .before .before .args .dvps))) (c .before .before .before .before .args .book)
 
   abbrev g : ℕ
   g = c .before .loop .g
@@ -34,17 +36,17 @@ module _ (c : tie.In-loop Inv-loop μ-loop) where
   map-size : c .before .loop .map < 2 ^ 29
   map-size = let h : g ≤ 29 = omega arith in omega (arith, c .before .loop .inv .1, map-lt t g, pow-mono h)
 
-loop-holds : tie.Need-loop-holds Inv-loop μ-loop
-loop-holds c = let s = c .before .args in (omega arith, sym (map-none (hasLine (now (s .day)) (entry (now (s .nets))) (entry (now (s .dvps))) (s .book))), refl)
+  flag-is : getD (c .before .before .groups-held .result) g false ≡ t g
+  flag-is = ap (λ l. getD l g false) (c .before .before .groups-held .ensures) ∙ getD-tabulate 32 t g false (omega arith)
 
-has-line-requires : tie.Need-has-line-requires Inv-loop μ-loop
-has-line-requires c κs = let p = c .before .before .before .pre in (p .0, (p .1 .0, p .1 .1))
+loop-holds : tie.Need-loop-holds Inv-loop μ-loop
+loop-holds c = let s = c .before .before .args in (omega arith, sym (map-none (hasLine (now (s .day)) (entry (now (s .nets))) (entry (now (s .dvps))) (s .book))), refl)
 
 with-bit-requires : tie.Need-with-bit-requires Inv-loop μ-loop
-with-bit-requires c κs = (map-size (c .before), omega (arith, bit-size (c .before)))
+with-bit-requires c κs = (map-size c, omega (arith, bit-size c))
 
 mul-bit : tie.Need-mul-bit Inv-loop μ-loop
-mul-bit c = record { fits = omega (arith, bit-size (c .before .before)) }
+mul-bit c = record { fits = omega (arith, bit-size (c .before)) }
 
 add-g : tie.Need-add-g Inv-loop μ-loop
 add-g c = search needs
@@ -54,16 +56,16 @@ loop-less c = search needs
 
 loop-again : tie.Need-loop-again Inv-loop μ-loop
 loop-again c =
-    let l = c .before .before in (
+    let l = c .before in (
       omega arith,
-      c .with-bit .ensures ∙ map-more (t l) (g l) (l .before .loop .map) (l .before .loop .bit) (c .before .has-line .result) (l .before .loop .inv .1) (l .before .loop .inv .2) (c .before .has-line .ensures),
+      c .with-bit .ensures ∙ map-more (t l) (g l) (l .before .loop .map) (l .before .loop .bit) _ (l .before .loop .inv .1) (l .before .loop .inv .2) (flag-is l),
       power-more (g l) (l .before .loop .bit) (l .before .loop .inv .2),
     )
 
 returns : tie.Need-returns Inv-loop μ-loop
 unfolding bookMap
 returns c =
-    let s = c .before .before .before .args in
+    let s = c .before .before .before .before .args in
     let e : c .before .loop .g ≡ 29 = omega arith in
     let h = hasLine (now (s .day)) (entry (now (s .nets))) (entry (now (s .dvps))) (s .book) in
     let q = c .before .loop .inv .1 ∙ ap (mapBelow h) e in
@@ -75,8 +77,9 @@ book-map-spec =
     (tie.spec
     Inv-loop
     μ-loop
+    (λ c κs. search needs)
     loop-holds
-    has-line-requires
+    (λ c. search needs)
     with-bit-requires
     mul-bit
     add-g

@@ -38,10 +38,11 @@ add-spec =
     let s = m .before .before .before in
     let t = s .before .before .before in
     let x = t .before .before .before in
+    λ i.
     record {
-      spreads = told (s .add .ok) (s .add .ensures ∙ sum-is (x .args .self .spread) (x .args .more .spread) (omega (arith, x .pre .0 .spreadSmall)) (omega (arith, x .pre .1 .spreadSmall)));
-      mtms = told (m .add2 .ok) (m .add2 .ensures ∙ sum-is (x .args .self .mtm) (x .args .more .mtm) (x .pre .0 .mtmSmall) (x .pre .1 .mtmSmall));
-      premiums = told (p .add3 .ok) (p .add3 .ensures ∙ sum-is (x .args .self .premium) (x .args .more .premium) (omega (arith, x .pre .0 .premiumSmall)) (omega (arith, x .pre .1 .premiumSmall)));
-      minimums = told (c .add4 .ok) (c .add4 .ensures ∙ sum-is (x .args .self .minimum) (x .args .more .minimum) (omega (arith, x .pre .0 .minimumSmall)) (omega (arith, x .pre .1 .minimumSmall)));
-      points = t .plus .ensures;
+      spread = told (s .add .ok) (s .add .ensures ∙ sum-is (x .args .self .spread) (x .args .more .spread) (omega (arith, x .pre .0 .spreadSmall)) (omega (arith, x .pre .1 .spreadSmall))) i;
+      mtm = told (m .add2 .ok) (m .add2 .ensures ∙ sum-is (x .args .self .mtm) (x .args .more .mtm) (x .pre .0 .mtmSmall) (x .pre .1 .mtmSmall)) i;
+      premium = told (p .add3 .ok) (p .add3 .ensures ∙ sum-is (x .args .self .premium) (x .args .more .premium) (omega (arith, x .pre .0 .premiumSmall)) (omega (arith, x .pre .1 .premiumSmall))) i;
+      minimum = told (c .add4 .ok) (c .add4 .ensures ∙ sum-is (x .args .self .minimum) (x .args .more .minimum) (omega (arith, x .pre .0 .minimumSmall)) (omega (arith, x .pre .1 .minimumSmall))) i;
+      points = record { at = t .plus .ensures i };
     }))
