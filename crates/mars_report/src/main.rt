@@ -1,8 +1,14 @@
 // The report program: prints the report, or the refusal, of day.w32 and pos.w32 in its folder.
+ghost use mathlib.Core.Bool.{true, false};
+ghost use mathlib.Core.Path.{_≡_};
+ghost use lib.IntN.{pos};
+ghost use lib.Signed.{ltZ};
 use libc::STDOUT_FILENO;
 
 // An open descriptor that can be read; one that can't counts as a file not opened.
-fn readable(fd: i32) -> bool {
+fn readable(fd: i32) -> bool
+    ensures { λ r. ⌜ (ltZ fd (pos 0) ≡ true → r ≡ false) ⌝ }
+{
     if fd < 0 {
         return false;
     }

@@ -28,6 +28,10 @@ use Rattle.text.specs.Room.{Room}
 abbrev pub filesAnswer : Bool → List ℕ → Bool → List ℕ → Answer
 filesAnswer first day second batch = answerOf (filesCheck first day second batch) (answer (wordsOf day) (wordsOf batch) 1115)
 
+-- what is printed of the call over words
+abbrev pub callText : List ℕ → List ℕ → List ℕ → List ℕ
+callText d b m = printed (answer d b (length m)) (memoryAfter d b m)
+
 -- ---- the answer by cases
 
 module _ (day batch : List ℕ) where
@@ -127,5 +131,5 @@ room-of d b m (Refused k) w e q = tt
 room-of d b m (Report n) w e q =
     rw (q ∙ after-written d b m n (sym e)) (omega (arith, count-read d (net b) (dvp b) (drop n m), count-small d (net b) (dvp b)))
 
-pub words-shown : (d b m : List ℕ) (r : Answer) (w : List ℕ) → r ≡ answer d b (length m) → w ≡ memoryAfter d b m → printed r w ≡ printed (answer d b (length m)) (memoryAfter d b m)
+pub words-shown : (d b m : List ℕ) (r : Answer) (w : List ℕ) → r ≡ answer d b (length m) → w ≡ memoryAfter d b m → printed r w ≡ callText d b m
 words-shown d b m r w e q = ap (λ (a : Answer). printed a w) e ∙ ap (printed (answer d b (length m))) q

@@ -5,9 +5,9 @@ ghost use lib.ListN.{length, replicate};
 ghost use Rattle.io.specs.Counts.{Counts};
 ghost use Rattle.numbers.specs.Put.{put};
 ghost use Rattle.model.specs.Bytes.{wordsOf, writtenBytes};
-ghost use Rattle.model.specs.Calls.{answer as answerTo, memoryAfter, report as reportOf};
-ghost use Rattle.model.specs.Printed.{printed, programText};
-ghost use Rattle.program.specs.Files.{filesAnswer};
+ghost use Rattle.model.specs.Calls.{memoryAfter, report as reportOf};
+ghost use Rattle.model.specs.Printed.{programText};
+ghost use Rattle.program.specs.Files.{filesAnswer, callText};
 use model::Answer;
 use model::BytesFault;
 use model::Check;
@@ -45,6 +45,8 @@ fn print_through(
     requires { ⌜ 9090 ≤ length (now out) ⌝ }
     ensures { λ r. ⌜ (r ≡ 0 + length (programText first (now (day .entry)) second (now (batch .entry)))) × (now (out .exit) ≡ put 0 (programText first (now (day .entry)) second (now (batch .entry))) (now (out .entry))) ⌝ }
     ensures { λ r. ⌜ Counts r (now (out .exit)) ⌝ }
+    ensures { λ _. ⌜ now (memory .exit) ≡ writtenBytes (filesAnswer first (now (day .entry)) second (now (batch .entry))) (reportOf (wordsOf (now (day .entry))) (wordsOf (now (batch .entry)))) (replicate 4460 0) ⌝ }
+    ensures { λ _. ⌜ now (words .exit) ≡ put 0 (wordsOf (now (memory .exit))) (now (words .entry)) ⌝ }
 {
     let answer = answer_files(first, day, second, batch, memory);
     byte_words::decode(memory, words);
@@ -65,8 +67,9 @@ pub fn print_files(first: bool, day: &[u8], second: bool, batch: &[u8], out: &mu
 // The same of two files of words and a memory of any length.
 pub fn print_words(day: &[u32], batch: &[u32], memory: &mut [u32], out: &mut [u8]) -> usize
     requires { ⌜ 9090 ≤ length (now out) ⌝ }
-    ensures { λ r. ⌜ (r ≡ 0 + length (printed (answerTo (now (day .entry)) (now (batch .entry)) (length (now (memory .entry)))) (memoryAfter (now (day .entry)) (now (batch .entry)) (now (memory .entry))))) × (now (out .exit) ≡ put 0 (printed (answerTo (now (day .entry)) (now (batch .entry)) (length (now (memory .entry)))) (memoryAfter (now (day .entry)) (now (batch .entry)) (now (memory .entry)))) (now (out .entry))) ⌝ }
+    ensures { λ r. ⌜ (r ≡ 0 + length (callText (now (day .entry)) (now (batch .entry)) (now (memory .entry)))) × (now (out .exit) ≡ put 0 (callText (now (day .entry)) (now (batch .entry)) (now (memory .entry))) (now (out .entry))) ⌝ }
     ensures { λ r. ⌜ Counts r (now (out .exit)) ⌝ }
+    ensures { λ _. ⌜ now (memory .exit) ≡ memoryAfter (now (day .entry)) (now (batch .entry)) (now (memory .entry)) ⌝ }
 {
     let answer = report::report(day, batch, memory);
     text::lines::write_answer(answer, memory, out)

@@ -1,25 +1,21 @@
 // Runs the call over words on the accounts of cases.w32 and prints each answer; what must come out is the reckoner's.
-ghost use Prim.Native.Nat.{_*_, _≤_};
+ghost use Prim.Native.Nat.{_*_, _≤_, min};
 ghost use mathlib.Core.Path.{_≡_};
-ghost use lib.ListN.{length};
+ghost use mathlib.Core.List.{_++_};
+ghost use lib.ListN.{length, take, drop};
 ghost use Rattle.io.specs.Counts.{Counts};
+ghost use Rattle.numbers.specs.Put.{put};
+ghost use Rattle.model.specs.Bytes.{wordsOf};
+ghost use Rattle.model.specs.Calls.{memoryAfter};
+ghost use Rattle.program.specs.Files.{callText};
+ghost use Rattle.random_accounts.specs.Fronts.{front, behind};
 use libc::STDOUT_FILENO;
 use words::index;
 use words::word_at;
 
 // A length of the file, held to what a memory takes.
-fn held(n: u32, words: &[u32]) -> usize
-    ensures { λ r. ⌜ Counts r (now (words .entry)) ⌝ }
-{
-    if index(n) < words.len() {
-        return index(n);
-    }
-    words.len()
-}
-
-// The same, held to a number.
 fn at_most(n: u32, most: usize) -> usize
-    ensures { λ r. ⌜ r ≤ most ⌝ }
+    ensures { λ r. ⌜ r ≡ min n most ⌝ }
 {
     if index(n) < most {
         return index(n);
@@ -27,24 +23,32 @@ fn at_most(n: u32, most: usize) -> usize
     most
 }
 
-// The file's next bytes as words.
-fn read_part(fd: i32, bytes: &mut [u8], words: &mut [u32])
+// The file's next bytes as words; the number of bytes that it gave.
+fn read_part(fd: i32, bytes: &mut [u8], words: &mut [u32]) -> usize
     requires { ⌜ (length (now bytes) ≤ 4 * length (now words)) × (length (now bytes) ≤ 1000000) ⌝ }
+    ensures { λ r. ⌜ Counts r (now (bytes .exit)) ⌝ }
+    ensures { λ r. ⌜ now (words .exit) ≡ put 0 (wordsOf (take r (now (bytes .exit)))) (now (words .entry)) ⌝ }
 {
     let got = io::read_full(fd, bytes);
     byte_words::decode(&bytes[..got], words);
+    got
 }
 
-// The file's next n words.
-fn read_words(fd: i32, n: usize, bytes: &mut [u8], words: &mut [u32])
+// The file's next n words, by way of the front of `bytes`; the number of bytes that it gave.
+fn read_words(fd: i32, n: usize, bytes: &mut [u8], words: &mut [u32]) -> usize
     requires { ⌜ (4 * n ≤ length (now bytes)) × (n ≤ length (now words)) × (n ≤ 10000) ⌝ }
+    ensures { λ r. ⌜ r ≤ 4 * n ⌝ }
+    ensures { λ r. ⌜ now (words .exit) ≡ put 0 (wordsOf (take r (now (bytes .exit)))) (now (words .entry)) ⌝ }
+    ensures { λ _. ⌜ drop (4 * n) (now (bytes .exit)) ≡ drop (4 * n) (now (bytes .entry)) ⌝ }
 {
-    read_part(fd, &mut bytes[..4 * n], words);
+    read_part(fd, &mut bytes[..4 * n], words)
 }
 
 // Case i: its heading, then the report or the refusal.
 fn print_case(i: u32, day: &[u32], batch: &[u32], memory: &mut [u32], out: &mut [u8])
     requires { ⌜ 9090 ≤ length (now out) ⌝ }
+    ensures { λ _. ⌜ now (memory .exit) ≡ memoryAfter (now (day .entry)) (now (batch .entry)) (now (memory .entry)) ⌝ }
+    ensures { λ _. ⌜ now (out .exit) ≡ put 0 (callText (now (day .entry)) (now (batch .entry)) (now (memory .entry))) (now (out .entry)) ⌝ }
 {
     io::write_all(STDOUT_FILENO, b"CASE ");
     io::print_decimal(STDOUT_FILENO, i as u64);
@@ -53,7 +57,7 @@ fn print_case(i: u32, day: &[u32], batch: &[u32], memory: &mut [u32], out: &mut 
     io::write_all(STDOUT_FILENO, &out[..n]);
 }
 
-// The same of so many words of each memory.
+// The same of so many words of each memory, or all where there are fewer; the rest of the report memory stays.
 fn print_fronts(
     i: u32,
     lengths: &[u32],
@@ -63,10 +67,12 @@ fn print_fronts(
     out: &mut [u8],
 )
     requires { ⌜ 9090 ≤ length (now out) ⌝ }
+    ensures { λ _. ⌜ now (memory .exit) ≡ memoryAfter (front (now (lengths .entry)) 0 (now (day .entry))) (front (now (lengths .entry)) 1 (now (batch .entry))) (front (now (lengths .entry)) 2 (now (memory .entry))) ++ behind (now (lengths .entry)) 2 (now (memory .entry)) ⌝ }
+    ensures { λ _. ⌜ now (out .exit) ≡ put 0 (callText (front (now (lengths .entry)) 0 (now (day .entry))) (front (now (lengths .entry)) 1 (now (batch .entry))) (front (now (lengths .entry)) 2 (now (memory .entry)))) (now (out .entry)) ⌝ }
 {
-    let d = held(word_at(lengths, 0), day);
-    let b = held(word_at(lengths, 1), batch);
-    let m = held(word_at(lengths, 2), memory);
+    let d = at_most(word_at(lengths, 0), day.len());
+    let b = at_most(word_at(lengths, 1), batch.len());
+    let m = at_most(word_at(lengths, 2), memory.len());
     print_case(i, &day[..d], &batch[..b], &mut memory[..m], out);
 }
 
@@ -84,17 +90,13 @@ fn run_next(fd: i32, i: u32) {
     print_fronts(i, &lengths, &day, &batch, &mut memory, &mut out);
 }
 
-// The number of cases, the file's first word.
-fn count(fd: i32) -> u32 {
-    let mut bytes = [0u8; 4];
-    let mut words = [0u32; 1];
-    read_words(fd, 1, &mut bytes, &mut words);
-    words[0]
-}
-
+// The file's first word is the number of cases.
 fn main() {
     let fd = os::open_read(b"cases.w32");
-    let n = count(fd);
+    let mut bytes = [0u8; 4];
+    let mut count = [0u32; 1];
+    read_words(fd, 1, &mut bytes, &mut count);
+    let n = word_at(&count, 0);
     let mut i: u32 = 0;
     while i < n {
         run_next(fd, i);

@@ -4,9 +4,7 @@ use Prim.Native.Nat.{ℕ, _+_}
 use lib.ListN.{length}
 use denote.Ref.{now}
 use Rattle.numbers.specs.Put.{put}
-use Rattle.model.specs.Calls.{answer, memoryAfter}
-use Rattle.model.specs.Printed.{printed}
-use Rattle.program.specs.Files.{room-of, words-shown, text-fits}
+use Rattle.program.specs.Files.{callText, room-of, words-shown, text-fits}
 use borrow.Author.Needs.{needs}
 use Rattle.program.proofs.print_words.Statement.{statement}
 use Rattle.program.proofs.print_words.Tie as tie
@@ -37,7 +35,7 @@ returns c =
     let t = words-shown d b m (r .result) (r .last .1 .1 .0) (r .ensures .0) (r .ensures .1) in
     let n = w .ensures .0 ∙ ap (λ (x : List ℕ). 0 + length x) t in
     let o = w .ensures .1 ∙ ap (λ (x : List ℕ). put 0 x (now (s .args .out))) t in
-    ((n, o), text-fits (printed (answer d b (length m)) (memoryAfter d b m)) (now (s .args .out)) (w .last .1 .1 .0) (w .result) n o)
+    ((n, o), (text-fits (callText d b m) (now (s .args .out)) (w .last .1 .1 .0) (w .result) n o, r .ensures .1))
 
 pub print-words-spec : {M : Type 1} → statement M
 print-words-spec =

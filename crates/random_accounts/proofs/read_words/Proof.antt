@@ -1,17 +1,15 @@
 use native.Mathlib.Omega.{arith}
-use mathlib.Core.Path.{sym}
-use Prim.Native.Nat.{_*_}
+use mathlib.Core.Path.{sym, ap, _∙_}
+use mathlib.Core.List.{List}
+use Prim.Native.Nat.{ℕ, _*_}
 use lib.Seq.{length-take-le}
 use denote.Ref.{now}
+use Rattle.numbers.specs.Put.{put}
+use Rattle.model.specs.Bytes.{wordsOf}
+use Rattle.random_accounts.specs.Fronts.{read-front}
 use borrow.Author.Needs.{needs}
 use Rattle.random_accounts.proofs.read_words.Statement.{statement}
 use Rattle.random_accounts.proofs.read_words.Tie as tie
-
-mul-read-part : tie.Need-mul-read-part
-mul-read-part c = search needs
-
-slice-relend-prefix-read-part : tie.Need-slice-relend-prefix-read-part
-slice-relend-prefix-read-part c = search needs
 
 slice-aggregate-read-part : tie.Need-slice-aggregate-read-part
 slice-aggregate-read-part c =
@@ -24,23 +22,21 @@ read-part-requires c κs =
     let e = length-take-le (4 * s .args .n) (now (s .args .bytes)) (s .pre .0) in
     (omega (arith, e, s .pre .1), omega (arith, e, s .pre .2))
 
-same-length : tie.Need-same-length
-same-length c = search needs
-
-same-length-2 : tie.Need-same-length-2
-same-length-2 c = search needs
-
 returns : tie.Need-returns
-returns c = search needs
+returns c =
+    let s = c .before .before .before .before .before .before .before .before .before in
+    let p = c .before .before .before .before .read-part in
+    let f = read-front (now (s .args .bytes)) (p .last .1 .0) (4 * s .args .n) (p .result) (s .pre .0) (p .kept .1 .0) (p .ensures .0 .0) in
+    (f .0, (p .ensures .1 ∙ ap (λ (x : List ℕ). put 0 (wordsOf x) (now (s .args .words))) (f .1), f .2))
 
 pub read-words-spec : {M : Type 1} → statement M
 read-words-spec =
     tie.close
     (tie.spec
-    mul-read-part
-    slice-relend-prefix-read-part
+    (λ c. search needs)
+    (λ c. search needs)
     slice-aggregate-read-part
     read-part-requires
-    same-length
-    same-length-2
+    (λ c. search needs)
+    (λ c. search needs)
     returns)
