@@ -88,37 +88,22 @@ fn options() -> Account {
         projected: [49_001, 49_739, 50_476, 51_214, 51_951, 53_427, 54_164, 54_902, 55_639, 56_377],
         ..Class::default()
     };
+    let call = |class_number, month, multiplier, strike, closing, theoretical| Series {
+        class_number,
+        kind: CALL,
+        expiry: expiry(2021, month),
+        multiplier,
+        strike,
+        closing,
+        theoretical,
+        ..Series::default()
+    };
+    let put =
+        Series { kind: PUT, ..call(1, 6, 500, 50_000, 1_010, [2_600, 2_190, 1_830, 1_520, 1_250, 810, 640, 500, 390, 300]) };
     let series = [
-        Series {
-            class_number: 0,
-            kind: CALL,
-            expiry: expiry(2021, 6),
-            multiplier: 1_000,
-            strike: 28_000,
-            closing: 1_700,
-            theoretical: [420, 600, 810, 1_060, 1_360, 2_080, 2_510, 2_990, 3_520, 4_090],
-            ..Series::default()
-        },
-        Series {
-            class_number: 1,
-            kind: CALL,
-            expiry: expiry(2021, 4),
-            multiplier: 5_000,
-            strike: 51_125,
-            closing: 1_564,
-            theoretical: [0, 0, 0, 89, 826, 2_302, 3_039, 3_777, 4_514, 5_252],
-            ..Series::default()
-        },
-        Series {
-            class_number: 1,
-            kind: PUT,
-            expiry: expiry(2021, 6),
-            multiplier: 500,
-            strike: 50_000,
-            closing: 1_010,
-            theoretical: [2_600, 2_190, 1_830, 1_520, 1_250, 810, 640, 500, 390, 300],
-            ..Series::default()
-        },
+        call(0, 6, 1_000, 28_000, 1_700, [420, 600, 810, 1_060, 1_360, 2_080, 2_510, 2_990, 3_520, 4_090]),
+        call(1, 4, 5_000, 51_125, 1_564, [0, 0, 0, 89, 826, 2_302, 3_039, 3_777, 4_514, 5_252]),
+        put,
     ];
     let records = [
         Record { series: 0, short: 10, ..Record::default() },
