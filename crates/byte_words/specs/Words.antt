@@ -4,9 +4,9 @@ use mathlib.Core.List.{List, [], _∷_, _++_, append-assoc}
 use Prim.Native.Nat.{ℕ, zero, suc, _+_, _*_, _/_, _%_, _^_, _≤_, _<_}
 use native.Mathlib.Numerals.{add-one, towards-suc}
 use native.Mathlib.Omega.{arith}
-use lib.ListN.{length, getD, take, drop, set}
-use lib.Seq.{take-suc, take-all, length-take-le, sets-eq}
-use Rattle.numbers.specs.Put.{put, put-none, put-next, put-put, put-length}
+use lib.ListN.{length, getD, take, set}
+use lib.Seq.{take-suc, length-take-le, sets-eq}
+use Rattle.numbers.specs.Put.{put, put-none, put-put, put-length}
 use Rattle.model.specs.Bytes.{wordsOf, bytesOf}
 
 abbrev pub wordAt : List ℕ → ℕ → ℕ

@@ -10,7 +10,7 @@ use borrow.Author.Tests.{eq-eqb, ne-eqb}
 use lib.Dec.{eqb}
 use lib.ListN.{length, getD, set, replicate, length-set}
 use lib.Seq.{getD-set-same, getD-set-other}
-use Rattle.numbers.specs.Scan.{firstBad, hit, first-none, first-some}
+use Rattle.numbers.specs.Scan.{hit, first-none, first-some}
 use Rattle.model.specs.DayFile.{group, offset}
 use Rattle.model.specs.DayChecks.{offsetsDiffer, row14}
 

@@ -1,7 +1,7 @@
 // Rows 15 to 17: the class, the order and the type of the series.
 ghost use mathlib.Core.Path.{_≡_};
 ghost use Prim.Native.Nat.{_+_, _*_, _≤_, _<_};
-ghost use lib.ListN.{length, getD};
+ghost use lib.ListN.{length};
 ghost use Rattle.numbers.specs.Scan.{firstBad};
 ghost use Rattle.model.specs.DayFile.{classCount, seriesCount};
 ghost use Rattle.model.specs.DayChecks.{row15, row16, row17};

@@ -6,7 +6,6 @@ use borrow.Author.Tests.{eq-eqb, ne-eqb}
 use lib.Dec.{eqb}
 use lib.IntN.{ℤ, pos, natAbs, _+ℤ_}
 use lib.ListN.{getD}
-use Rattle.points.specs.declared.accumulator.Points.{Points}
 use Rattle.margin.specs.declared.group.Amounts.{Amounts}
 use Rattle.numbers.specs.Sums.{sumWhere, sumWhere-zero, sumWhere-yes, sumWhere-no}
 use Rattle.numbers.specs.Table.{tabulate, getD-tabulate, tabulate-ext}

@@ -9,7 +9,6 @@ use Rattle.numbers.specs.Abs.{natAbs-+}
 use Rattle.numbers.specs.Extremes.{maxZ, largest, largest-ext, largest-abs, max-abs}
 use Rattle.numbers.specs.Table.{getD-tabulate}
 use Rattle.margin.specs.declared.group.Amounts.{Amounts}
-use Rattle.points.specs.declared.accumulator.Points.{Points}
 use Rattle.model.specs.DayFile.{classCount}
 use Rattle.model.specs.Steps.Classes.{overClasses}
 use Rattle.model.specs.Steps.Additional.{groupPoint, additional}

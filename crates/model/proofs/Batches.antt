@@ -5,17 +5,13 @@ use mathlib.Core.List.{List, [], _∷_, _++_, append-assoc, List·Permᴰ, List�
 use Prim.Native.Nat.{ℕ, zero, suc, _+_, _*_, _<_, _≤_}
 use native.Mathlib.Nat.{ℕ-set}
 use native.Mathlib.Omega.{arith}
-use borrow.Author.Tests.{eqb-true}
-use lib.Dec.{eqb}
 use lib.ListN.{length, getD, drop, length-append}
 use lib.Seq.{drop-cons, drop-length, getD-append-add}
 use Rattle.numbers.specs.Table.{tabulate, tabulate-ext}
 use Rattle.model.specs.Words.{payload}
 use Rattle.model.specs.Batch.{batchHeader, recordCount}
-use Rattle.model.specs.BatchChecks.{row21}
 use Rattle.model.specs.Calls.{Accepted}
 use Rattle.model.specs.Locality.{recordAt, records, Reordered}
-use Rattle.model.proofs.Tests.{not-off}
 use Rattle.model.proofs.Limits.{batch-length}
 use Rattle.model.proofs.Accepted.{batch-rows}
 use Rattle.model.proofs.Counted.{joined, Each, none, more}

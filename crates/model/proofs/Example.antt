@@ -1,8 +1,7 @@
 -- Demand 3 at work: M3's account, and the same with 100 shares for 200, an edit in group 3 of the ordinary book.
-use mathlib.Core.Path.{_≡_, refl}
+use mathlib.Core.Path.{refl}
 use mathlib.Core.List.{List, Perm·nil}
 use lib.Dec.{lit≤}
-use lib.IntN.{ℤ}
 use lib.ListN.{length, replicate}
 use Prim.Native.Nat.{ℕ, _≤_}
 use native.Mathlib.Omega.{arith}

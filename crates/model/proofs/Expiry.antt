@@ -2,10 +2,10 @@
 use mathlib.Core.Path.{_≡_, refl, sym, ap, _∙_}
 use mathlib.Core.Bool.{Bool, true, false, not, _&&_, _||_, true≢false}
 use mathlib.Core.List.{List}
-use Prim.Native.Nat.{ℕ, zero, suc, _+_, _*_, _-_, _/_, _%_, _^_, _≤_, _<_}
+use Prim.Native.Nat.{ℕ, suc, _+_, _*_, _-_, _%_, _^_, _≤_, _<_}
 use native.Mathlib.Decide.{le-ind, decLt}
 use native.Mathlib.Omega.{arith}
-use borrow.Author.Tests.{eqb-true, ltb-true, ltb-false, lt-ltb, le-leb, eq-eqb}
+use borrow.Author.Tests.{eqb-true, ltb-true, ltb-false, lt-ltb, le-leb}
 use lib.Dec.{leb, ltb, eqb}
 use lib.Pow.{mod-pow-add}
 use native.Mathlib.Nat.{mod-eq-of-lt, le-of-eq}

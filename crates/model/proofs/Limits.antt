@@ -1,17 +1,17 @@
 -- The limits of the fields of accepted files.
-use mathlib.Core.Path.{_≡_, refl, sym, ap, _∙_}
-use mathlib.Core.Bool.{Bool, true, false, not, _&&_, _||_, cond}
+use mathlib.Core.Path.{_≡_, sym, ap, _∙_}
+use mathlib.Core.Bool.{Bool, false, not, _&&_, _||_, cond}
 use mathlib.Core.Logic.{_≢_}
 use mathlib.Core.List.{List}
-use Prim.Native.Nat.{ℕ, zero, suc, _+_, _*_, _-_, _≤_, _<_}
+use Prim.Native.Nat.{ℕ, _+_, _*_, _-_, _≤_, _<_}
 use native.Mathlib.Omega.{arith}
 use borrow.Author.Tests.{lt-ltb, le-ltb, ltb-false, leb-false, eqb-true, eqb-false, ne-eqb}
-use lib.Dec.{leb, ltb, eqb}
-use lib.IntN.{ℤ, pos, negℤ, natAbs}
-use lib.ListN.{length, getD}
+use lib.Dec.{ltb, eqb}
+use lib.IntN.{natAbs}
+use lib.ListN.{length}
 use Rattle.numbers.specs.Scan.{firstBad, hit, first-clear}
 use Rattle.numbers.specs.Lists.{nothing-hit}
-use Rattle.model.specs.Words.{kind, payload, bits, badWord, magnitude, negative}
+use Rattle.model.specs.Words.{kind, payload, bits, badWord, negative}
 use Rattle.model.specs.DayFile.{classCount, seriesCount, classWord, seriesWord, group, underlying, offset, multiplier, closing}
 use Rattle.model.specs.DayChecks.{badClassWord, badSeriesWord, badClass, badSeries, row11, row12}
 use Rattle.model.specs.Batch.{batchHeader, recordCount, recordWord, key, place, long, short, dvpSize, dvpAmount}

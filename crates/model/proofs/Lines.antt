@@ -1,17 +1,17 @@
 -- A line depends on the positions of its group and book alone: where two families of nets and DVPs agree on these, the lines are the same.
-use mathlib.Core.Path.{_≡_, refl, sym, ap, _∙_}
+use mathlib.Core.Path.{_≡_, refl, ap, _∙_}
 use mathlib.Core.Bool.{Bool, true, false, _&&_, _||_, cond}
 use mathlib.Core.List.{List, [], _∷_}
 use Prim.Native.Nat.{ℕ, _+_, _<_}
 use native.Mathlib.Omega.{arith}
 use borrow.Author.Tests.{eqb-true}
 use lib.Dec.{eqb}
-use lib.IntN.{ℤ, pos, negℤ, _+ℤ_, _-ℤ_, _*ℤ_}
+use lib.IntN.{ℤ, pos, _+ℤ_, _-ℤ_, _*ℤ_}
 use Rattle.numbers.specs.declared.Found.{Found}
 use Rattle.numbers.specs.declared.Found.the-variants.{At, Nothing}
 use Rattle.numbers.specs.Scan.{firstBad, hit, first-at, first-ext}
-use Rattle.numbers.specs.Sums.{sumTo, sumTo-ext, sumWhere, sumWhere-ext}
-use Rattle.numbers.specs.Extremes.{minZ, maxZ, absZ, largest, largest-ext}
+use Rattle.numbers.specs.Sums.{sumTo-ext, sumWhere-ext}
+use Rattle.numbers.specs.Extremes.{minZ, maxZ, absZ, largest-ext}
 use Rattle.model.specs.DayFile.{classCount, seriesCount, seriesType, seriesClass, seriesGroup, group, spotRate, nonSpotRate, offset, closing, isFuture}
 use Rattle.model.specs.Netting.{position}
 use Rattle.model.specs.Steps

@@ -1,24 +1,23 @@
 -- Nets and DVPs as sums over the list of records: in any order the same, and untouched by records of other positions.
-use mathlib.Core.Path.{_≡_, refl, sym, ap, _∙_, fun-ext}
-use mathlib.Core.Bool.{Bool, true, false, not, _&&_, _||_, cond}
+use mathlib.Core.Path.{_≡_, sym, ap, _∙_, fun-ext}
+use mathlib.Core.Bool.{Bool, false, not, _||_, cond}
 use mathlib.Core.List.{List, Perm}
-use Prim.Native.Nat.{ℕ, _+_, _*_, _/_, _%_, _^_, _<_, _≤_}
+use Prim.Native.Nat.{ℕ, _<_, _≤_}
 use native.Mathlib.Omega.{arith}
 use borrow.Author.Tests.{eqb-true, ne-eqb, ltb-false}
 use lib.Dec.{eqb, ltb}
 use lib.IntN.{ℤ, pos, _-ℤ_}
 use lib.ListN.{length, getD}
 use Rattle.numbers.specs.Perms.{sumOf, sumTo-of, sum-perm}
-use Rattle.numbers.specs.Lists.{keep, sum-keep}
+use Rattle.numbers.specs.Lists.{sum-keep}
 use Rattle.model.specs.Words.{kind, payload, bits, amount}
 use Rattle.model.specs.DayFile.{dayHeader, classCount, seriesCount, seriesGroup}
 use Rattle.model.specs.DayChecks.{row10}
 use Rattle.model.specs.Batch.{recordCount}
 use Rattle.model.specs.Netting.{position, net, dvp}
-use Rattle.model.specs.Calls.{Accepted}
 use Rattle.model.specs.Locality.{recordAt, records, ofLine, struck, Edit}
 use Rattle.model.proofs.Tests.{and-left, and-right, or-left, or-right, not-off}
-use Rattle.model.proofs.Accepted.{DayRows, day-rows}
+use Rattle.model.proofs.Accepted.{DayRows}
 use Rattle.model.proofs.Lines.{Agree}
 
 abbrev pub keyOf : List ℕ → ℕ

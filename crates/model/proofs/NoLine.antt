@@ -1,24 +1,24 @@
 -- A group without a line in a book has six zero amounts there: dropping the line loses nothing.
-use mathlib.Core.Path.{_≡_, refl, sym, ap, _∙_}
+use mathlib.Core.Path.{_≡_, refl, ap, _∙_}
 use mathlib.Core.Bool.{Bool, true, false, _&&_, _||_, cond}
 use mathlib.Core.List.{List, [], _∷_}
 use Prim.Native.Nat.{ℕ, zero, suc, _+_, _<_}
 use native.Mathlib.Omega.{arith}
 use borrow.Author.Tests.{ltb-false, eq-eqb}
-use lib.Dec.{eqb, ltb}
-use lib.IntN.{ℤ, pos, negsuc, natAbs, _+ℤ_, _-ℤ_, _*ℤ_, zero-*ℤ}
+use lib.Dec.{eqb}
+use lib.IntN.{ℤ, pos, negsuc, _+ℤ_, _-ℤ_, _*ℤ_, zero-*ℤ}
 use Rattle.numbers.specs.declared.Found.{Found}
 use Rattle.numbers.specs.declared.Found.the-variants.{At, Nothing}
 use Rattle.numbers.specs.Abs.{cond-ind}
 use Rattle.numbers.specs.Scan.{firstBad, first-clear}
 use Rattle.numbers.specs.Lists.{nothing-hit}
-use Rattle.numbers.specs.Sums.{sumTo, sumTo-zero, sumTo-ext, sumWhere}
+use Rattle.numbers.specs.Sums.{sumTo-zero, sumTo-ext, sumWhere}
 use Rattle.numbers.specs.Extremes.{minZ, maxZ, absZ, largest, largest-ext}
 use Rattle.model.specs.DayFile.{classCount, group, spotRate, nonSpotRate, offset, seriesCount, seriesType, seriesGroup, multiplier, closing, isFuture}
 use Rattle.model.specs.Netting.{position}
 use Rattle.model.specs.Steps
 use Rattle.model.proofs.Tests.{or-left, or-right}
-use Rattle.model.proofs.Lines.{Agree, amounts-same}
+use Rattle.model.proofs.Lines.{amounts-same}
 
 abbrev six : List ℤ
 six = pos 0 ∷ pos 0 ∷ pos 0 ∷ pos 0 ∷ pos 0 ∷ pos 0 ∷ []

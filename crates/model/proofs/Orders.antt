@@ -1,22 +1,20 @@
 -- The order of the records changes nothing.
-use mathlib.Core.Path.{_≡_, refl, sym, ap, _∙_}
-use mathlib.Core.Bool.{Bool, true, false, not, _||_}
+use mathlib.Core.Path.{_≡_, sym, ap, _∙_}
+use mathlib.Core.Bool.{Bool, false, not, _||_}
 use mathlib.Core.List.{List, _∷_, Perm}
 use Prim.Native.Nat.{ℕ, _+_, _*_, _<_}
 use lib.Dec.{eqb, ltb}
 use lib.IntN.{ℤ, natAbs}
 use lib.ListN.{length, getD}
 use Rattle.numbers.specs.Scan.{firstBad, hit, first-none, first-clear}
-use Rattle.numbers.specs.Lists.{anyOf, any-perm, hit-any, nothing-hit}
-use Rattle.model.specs.declared.Verdict.the-variants.{Passed}
+use Rattle.numbers.specs.Lists.{any-perm, hit-any, nothing-hit}
 use Rattle.model.specs.Words.{kind, payload, bits}
 use Rattle.model.specs.DayFile.{multiplier}
-use Rattle.model.specs.DayChecks.{dayCheck}
 use Rattle.model.specs.Batch.{recordCount}
 use Rattle.model.specs.BatchChecks.{row20, row21, badRecordWord, badDvp, row22, row23, row24, row25, row26}
 use Rattle.model.specs.Netting.{net, dvp, row30}
 use Rattle.model.specs.Report.{reportWords, wordsNeeded}
-use Rattle.model.specs.Calls.{Accepted, verdict, answer, answerOf, roomAnswer, memoryAfter, written}
+use Rattle.model.specs.Calls.{Accepted, answer, answerOf, roomAnswer, memoryAfter, written}
 use Rattle.model.specs.Locality.{recordAt, records, Reordered, Orders}
 use Rattle.model.proofs.Accepted.{BatchRows, day-passed, batch-rows, rows-accepted}
 use Rattle.model.proofs.Nets.{keyOf, net-order, dvp-order}

@@ -3,15 +3,14 @@ use mathlib.Core.Path.{_≡_, refl, sym, ap, _∙_}
 use mathlib.Core.Bool.{Bool, true, false, cond}
 use mathlib.Core.List.{List, [], _∷_, _++_, append-assoc}
 use Prim.Native.Nat.{ℕ, zero, suc, _+_, _*_, _%_, _^_, _≤_, _<_}
-use native.Mathlib.Nat.{mul-add}
 use native.Mathlib.Omega.{arith}
 use lib.Count.{ones, ones-le}
 use lib.Dec.{eqb}
 use lib.IntN.{ℤ, pos, natAbs, _+ℤ_}
-use lib.ListN.{length, getD, take, drop, length-append}
-use lib.Seq.{drop-append-add, drop-drop, drop-at}
-use Rattle.numbers.specs.Maps.{mapBelow, bit, blocks, map-lt, map-mod, map-bit, blocks-length, block-at}
-use Rattle.model.specs.Words.{word, payload, payload-word, amount, amountWords, amount-back}
+use lib.ListN.{length, take, drop, length-append}
+use lib.Seq.{drop-append-add}
+use Rattle.numbers.specs.Maps.{mapBelow, bit, map-lt, map-mod, map-bit, blocks-length, block-at}
+use Rattle.model.specs.Words.{word, payload-word, amountWords, amount-back}
 use Rattle.model.specs.Steps.{hasLine, margin, lineAmounts, total}
 use Rattle.model.specs.Report.{wordsOfAmounts, bookMap, lineWords, bookLines, lineCount, totals, reportWords}
 use Rattle.model.specs.Reading.{countIn, mapIn, standsIn, linesBefore, lineIn, totalIn, amountIn, marginIn}

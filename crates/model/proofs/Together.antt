@@ -1,8 +1,8 @@
 -- In an accepted day file the series stand by class: class numbers rise, every series has its class, and a later series has no earlier class.
-use mathlib.Core.Path.{_≡_, refl, sym, ap, subst, _∙_}
-use mathlib.Core.Bool.{Bool, true, false, not, _&&_, true≢false}
+use mathlib.Core.Path.{_≡_, refl, sym, ap, _∙_}
+use mathlib.Core.Bool.{true, false, _&&_, true≢false}
 use mathlib.Core.List.{List}
-use Prim.Native.Nat.{ℕ, zero, suc, _+_, _*_, _-_, _/_, _%_, _^_, _≤_, _<_}
+use Prim.Native.Nat.{ℕ, suc, _-_, _/_, _%_, _^_, _≤_, _<_}
 use native.Mathlib.Decide.{le-ind, decLt, decLe}
 use native.Mathlib.Nat.{le-of-eq}
 use native.Mathlib.Omega.{arith}
@@ -13,9 +13,9 @@ use Rattle.numbers.specs.declared.Found.the-variants.{At, Nothing}
 use Rattle.numbers.specs.Scan.{hit, first-at}
 use Rattle.model.specs.DayFile.{classCount, classNumber, seriesCount, seriesKey, seriesClassNumber, foundClass, placeOr, seriesClass}
 use Rattle.model.specs.DayChecks.{row13, row15}
-use Rattle.model.proofs.Tests.{and-right, not-off}
+use Rattle.model.proofs.Tests.{not-off}
 use Rattle.model.proofs.Accepted.{DayRows}
-use Rattle.model.proofs.Expiry.{rank, rank-order}
+use Rattle.model.proofs.Expiry.{rank-order}
 
 module _ (d : List ℕ) (r : DayRows d) where
   next-number : (c : ℕ) → suc c < classCount d → classNumber d c < classNumber d (suc c)

@@ -1,6 +1,6 @@
 -- The position batch: the fields of record r. b is the list of its words.
 use mathlib.Core.List.{List}
-use Prim.Native.Nat.{ℕ, _+_, _*_, _/_, _%_, _^_}
+use Prim.Native.Nat.{ℕ, _+_, _*_}
 use lib.IntN.{ℤ}
 use lib.ListN.{getD}
 use Rattle.model.specs.Words.{payload, bits, magnitude, amount}

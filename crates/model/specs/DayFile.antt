@@ -1,7 +1,7 @@
 -- The day file: its fields by class c, series s and point k (0 to 9 for D5 .. D1, U1 .. U5). d is the list of its words.
 use mathlib.Core.Bool.{Bool, _&&_, _||_}
 use mathlib.Core.List.{List}
-use Prim.Native.Nat.{ℕ, _+_, _*_, _/_, _%_, _^_}
+use Prim.Native.Nat.{ℕ, _+_, _*_}
 use lib.Dec.{leb, eqb}
 use lib.ListN.{getD}
 use Rattle.numbers.specs.declared.Found.{Found}

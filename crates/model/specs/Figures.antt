@@ -2,7 +2,7 @@
 use mathlib.Core.Path.{_≡_, refl}
 use mathlib.Core.List.{List, [], _∷_, _++_}
 use Prim.Native.Nat.{ℕ, _^_}
-use lib.IntN.{ℤ, pos}
+use lib.IntN.{pos}
 use lib.ListN.{replicate}
 use Rattle.model.specs.Netting.{net, dvp}
 use Rattle.model.specs.Steps.{afterOffset, spreadQuantity, spotSpread, nonSpotSpread, spread, nonSpread, mtm, premium, classPoint, groupPoint, groupMtm}

@@ -1,8 +1,8 @@
 -- What is printed, spelled out: the heads of lines, M3's report from the words of its two files, and two refusals.
 use mathlib.Core.Path.{_≡_, refl}
 use mathlib.Core.Bool.{true, false}
-use mathlib.Core.List.{List, [], _∷_, _++_}
-use Prim.Native.Nat.{ℕ, _^_}
+use mathlib.Core.List.{[], _∷_, _++_}
+use Prim.Native.Nat.{_^_}
 use lib.IntN.{pos}
 use lib.ListN.{replicate}
 use Rattle.model.specs.Words.{word}

@@ -1,8 +1,8 @@
 -- One more record in a table of sums by key, and the size of its entries.
-use mathlib.Core.Path.{_≡_, refl, sym, ap, _∙_}
-use mathlib.Core.Bool.{Bool, true, false, cond}
+use mathlib.Core.Path.{_≡_, ap, _∙_}
+use mathlib.Core.Bool.{cond}
 use mathlib.Core.List.{List}
-use Prim.Native.Nat.{ℕ, _+_, _*_, _/_, _%_, _^_, _≤_, _<_}
+use Prim.Native.Nat.{ℕ, _+_, _≤_, _<_}
 use native.Mathlib.Omega.{arith}
 use lib.Dec.{eqb}
 use lib.IntN.{ℤ, pos, natAbs, _+ℤ_, _-ℤ_}
@@ -13,7 +13,7 @@ use Rattle.numbers.specs.Abs.{cond-ind, natAbs-+, natAbs-pos-sub, fits-by, back
 use Rattle.numbers.specs.Slots.{slot, slots, slots-more}
 use Rattle.numbers.specs.Sums.{sumTo-abs}
 use Rattle.numbers.specs.Table.{tabulate, length-tabulate, getD-tabulate}
-use Rattle.model.specs.Batch.{recordCount, key, long, short, dvpAmount}
+use Rattle.model.specs.Batch.{recordCount, key, long, short}
 use Rattle.model.specs.Netting.{net}
 use Rattle.netting.specs.Limits.{Limited}
 

@@ -1,5 +1,5 @@
 -- A table that a loop fills from the front: after k turns the first k entries are those of f, the others as they were.
-use mathlib.Core.Path.{_≡_, refl, sym, ap, _∙_}
+use mathlib.Core.Path.{_≡_, sym, _∙_}
 use mathlib.Core.Bool.{cond}
 use mathlib.Core.List.{List}
 use mathlib.Core.Logic.{_≢_}

@@ -1,12 +1,12 @@
 -- What writing leaves: `put at w l` is l with w written over it from place `at` on. Each function that writes says what it wrote by this.
-use mathlib.Core.Path.{_≡_, refl, sym, ap, _∙_}
+use mathlib.Core.Path.{_≡_, sym, ap, _∙_}
 use mathlib.Core.List.{List, [], _∷_, _++_, append-assoc, append-nil}
-use Prim.Native.Nat.{ℕ, suc, _+_, _-_, _≤_, _<_}
+use Prim.Native.Nat.{ℕ, _+_, _-_, _≤_, _<_}
 use native.Mathlib.Nat.{le-of-eq}
 use native.Mathlib.Numerals.{add-one}
 use native.Mathlib.Omega.{arith}
 use lib.ListN.{length, take, drop, getD, set, length-append, length-drop, take-append-drop, drop-of-length-le}
-use lib.Seq.{length-take-le, take-suc, take-at, drop-at, take-all, drop-append-add, drop-drop, set-split}
+use lib.Seq.{length-take-le, take-suc, take-at, take-all, drop-append-add, drop-drop, set-split}
 use borrow.Rule.Slice.PartMut.{putMid, midOf}
 
 module _ {A : Type 0} where

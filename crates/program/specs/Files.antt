@@ -1,8 +1,8 @@
 -- The program's answer for its files, and that what it prints from its memory is the model's text.
 use mathlib.Core.Path.{_≡_, refl, sym, ap, _∙_}
-use mathlib.Core.Bool.{Bool, true, false, not, _||_}
-use mathlib.Core.List.{List, [], _∷_, _++_}
-use Prim.Native.Nat.{ℕ, zero, suc, _+_, _*_, _/_, _≤_}
+use mathlib.Core.Bool.{Bool, true, false, not}
+use mathlib.Core.List.{List, _∷_, _++_}
+use Prim.Native.Nat.{ℕ, zero, suc, _+_, _*_, _≤_}
 use native.Mathlib.Omega.{arith}
 use lib.ListN.{length, drop, replicate, length-replicate}
 use Rattle.model.specs.declared.Answer.{Answer}
@@ -13,7 +13,7 @@ use Rattle.model.specs.declared.Verdict.{Verdict}
 use Rattle.model.specs.declared.Verdict.the-variants.{Passed, Failed}
 use Rattle.model.specs.Netting.{net, dvp}
 use Rattle.model.specs.Calls.{verdict, answer, answerOf, report, memoryAfter}
-use Rattle.model.specs.Bytes.{wordsOf, bytesOf, badBytes, row1, row2, bytesCheck, byteAnswer, bytesAfter, writtenBytes}
+use Rattle.model.specs.Bytes.{wordsOf, bytesOf, badBytes, row1, bytesCheck, byteAnswer, bytesAfter, writtenBytes}
 use Rattle.model.specs.Printed.{filesCheck, programText, printed}
 use Rattle.model.proofs.ByteWords.{words-length, words-bytes, words-drop, report-accepted}
 use Rattle.model.proofs.Fit.{report-fits}

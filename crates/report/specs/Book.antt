@@ -11,10 +11,8 @@ use lib.ListN.{length, getD, length-append}
 use mir.Syntax.{w64}
 use mir.Val.{toZ, ofZ}
 use Rattle.numbers.specs.Abs.{back}
-use Rattle.numbers.specs.Maps.{mapBelow, bit, blocks, map-bit, ones-suc, ones-mono, blocks-length, blocks-none}
-use Rattle.numbers.specs.Put.{put, put-none, put-put, put-length}
-use Rattle.model.specs.Words.{word}
-use Rattle.model.specs.Report.{wordsOfAmounts, bookMap, lineWords, bookLines}
+use Rattle.numbers.specs.Maps.{mapBelow, bit, blocks, map-bit, ones-mono, blocks-length}
+use Rattle.model.specs.Report.{bookMap, lineWords}
 use Rattle.model.specs.Steps.Lines.{hasLine}
 use Rattle.model.specs.Steps.Margin.{groupSpread, groupMtm, groupPremium, margin, residual, lineAmounts}
 use Rattle.model.specs.Steps.Minimum.{requirement}

@@ -1,11 +1,11 @@
 -- The report's words part by part, as they are written.
 use mathlib.Core.Path.{_≡_, refl, sym, ap, _∙_}
 use mathlib.Core.List.{List, [], _∷_, _++_, append-assoc}
-use Prim.Native.Nat.{ℕ, zero, suc, _+_, _*_, _^_, _≤_, _<_}
+use Prim.Native.Nat.{ℕ, zero, suc, _+_, _*_, _^_, _<_}
 use native.Mathlib.Omega.{arith}
 use lib.Count.{ones}
 use lib.IntN.{ℤ, pos, natAbs, _+ℤ_}
-use lib.ListN.{length, getD, length-append}
+use lib.ListN.{length, getD}
 use Rattle.numbers.specs.Maps.{blocks-length}
 use Rattle.model.specs.Words.{word}
 use Rattle.model.specs.Report.{wordsOfAmounts, bookMap, bookLines, lineWords, lineCount, totals, reportWords, wordsNeeded}

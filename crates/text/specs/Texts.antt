@@ -1,18 +1,17 @@
 -- The lengths of fields and lines, and one more of them, as loops meet them.
-use mathlib.Core.Path.{_≡_, refl, sym, ap, _∙_}
+use mathlib.Core.Path.{_≡_, refl}
 use mathlib.Core.Bool.{Bool, true, false, cond}
 use mathlib.Core.List.{List, [], _∷_, _++_}
-use Prim.Native.Nat.{ℕ, zero, suc, _+_, _*_, _/_, _%_, _^_, _≤_, _<_}
+use Prim.Native.Nat.{ℕ, zero, suc, _+_, _*_, _^_, _≤_, _<_}
 use native.Mathlib.Numerals.{add-one}
 use native.Mathlib.Omega.{arith}
 use lib.Dec.{eqb}
-use lib.IntN.{ℤ, pos, negℤ, natAbs}
+use lib.IntN.{pos, negℤ, natAbs}
 use lib.ListN.{length, getD, length-append}
 use Rattle.numbers.specs.Abs.{cond-ind, natAbs-neg}
-use Rattle.numbers.specs.Put.{put, put-none, put-then}
 use Rattle.model.specs.Words.{payload, bits, amount, magnitude, negative}
-use Rattle.model.specs.Reading.{amountIn, countIn}
-use Rattle.model.specs.Printed.{signedDecimal, numberField, amountFields, marginHead, ordinaryHead, failHead, totalHead, refusedHead, lineText, linesText, countText, totalsText, reportText, refusalText}
+use Rattle.model.specs.Reading.{amountIn}
+use Rattle.model.specs.Printed.{signedDecimal, numberField, amountFields, marginHead, ordinaryHead, failHead, totalHead, lineText, linesText, countText, totalsText}
 use Rattle.text.specs.Digits.{decimal-length, signed-length}
 
 -- the head of a line whose key has this payload

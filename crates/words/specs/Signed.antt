@@ -1,12 +1,12 @@
 -- The size and the sign of an i64, as the machine tests them and turns them; and an unsigned number below 2 ^ 63 as an i64.
-use Prim.Native.Nat.{ℕ, zero, suc, _<_, _^_}
-use mathlib.Core.Path.{_≡_, refl, sym, ap, _∙_, subst}
-use mathlib.Core.Bool.{Bool, true, false}
+use Prim.Native.Nat.{ℕ, _<_, _^_}
+use mathlib.Core.Path.{_≡_, refl, _∙_, subst}
+use mathlib.Core.Bool.{true, false}
 use native.Mathlib.Omega.{arith}
 use borrow.Author.Tests.{ltb-true}
 use lib.Dec.{T}
 use lib.IntN.{ℤ, pos, negsuc, natAbs, negℤ, _-ℤ_, +ℤ-idl}
-use lib.Signed.{ltZ, nonNeg, mag}
+use lib.Signed.{ltZ, nonNeg}
 use mir.Syntax.{w64}
 use mir.Val.{Fits, SFits, toZ, ofZ}
 use mir.Facts.{toZ-ofZ, toZ-pos}

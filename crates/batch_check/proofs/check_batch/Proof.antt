@@ -4,7 +4,6 @@ use Rattle.model.specs.BatchChecks.{row21}
 use mathlib.Core.Path.{_≡_}
 use mathlib.Core.List.{List}
 use Prim.Native.Nat.{ℕ, _+_, _*_}
-use native.Mathlib.Omega.{arith}
 use lib.ListN.{length}
 use Rattle.model.specs.Batch.{recordCount}
 use Rattle.batch_check.specs.Stages.{by-stages}

@@ -1,15 +1,15 @@
 use borrow.Author.Needs.{needs}
 use native.Mathlib.Omega.{arith}
-use mathlib.Core.Path.{_≡_, refl, sym, ap, _∙_}
-use mathlib.Core.List.{List, [], _∷_}
-use Prim.Native.Nat.{ℕ, _+_, _*_, _-_, _/_, _≤_, _<_}
-use lib.ListN.{length, take, getD, set, length-set}
+use mathlib.Core.Path.{_≡_, sym, ap, _∙_}
+use mathlib.Core.List.{List}
+use Prim.Native.Nat.{ℕ, _+_, _-_, _≤_, _<_}
+use lib.ListN.{length, take, set}
 use lib.Seq.{take-all, length-take-le}
 use denote.Ref.{now}
 use Rattle.numbers.specs.Put.{put, put-none, put-next, put-length}
-use Rattle.model.specs.Bytes.{wordsOf, bytesOf}
+use Rattle.model.specs.Bytes.{wordsOf}
 use Rattle.model.proofs.ByteWords.{words-length}
-use Rattle.byte_words.specs.Words.{words-at, four-stores, bytes-none, bytes-more, bytes-kept}
+use Rattle.byte_words.specs.Words.{words-at}
 use Rattle.byte_words.proofs.decode.Statement.{statement}
 use Rattle.byte_words.proofs.decode.Tie as tie
 

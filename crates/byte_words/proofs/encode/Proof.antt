@@ -1,15 +1,14 @@
 use borrow.Author.Needs.{needs}
 use native.Mathlib.Omega.{arith}
-use mathlib.Core.Path.{_≡_, refl, sym, ap, _∙_}
+use mathlib.Core.Path.{_≡_, ap, _∙_}
 use mathlib.Core.List.{List, [], _∷_}
-use Prim.Native.Nat.{ℕ, _+_, _*_, _-_, _/_, _≤_, _<_}
-use lib.ListN.{length, take, getD, set, length-set}
-use lib.Seq.{take-all, length-take-le}
+use Prim.Native.Nat.{ℕ, _*_, _-_, _≤_}
+use lib.ListN.{length, take, getD}
+use lib.Seq.{take-all}
 use denote.Ref.{now}
-use Rattle.numbers.specs.Put.{put, put-none, put-next, put-length}
-use Rattle.model.specs.Bytes.{wordsOf, bytesOf}
-use Rattle.model.proofs.ByteWords.{words-length}
-use Rattle.byte_words.specs.Words.{words-at, four-stores, bytes-none, bytes-more, bytes-kept}
+use Rattle.numbers.specs.Put.{put}
+use Rattle.model.specs.Bytes.{bytesOf}
+use Rattle.byte_words.specs.Words.{bytes-none, bytes-more, bytes-kept}
 use Rattle.byte_words.proofs.encode.Statement.{statement}
 use Rattle.byte_words.proofs.encode.Tie as tie
 

@@ -1,15 +1,9 @@
 use borrow.Author.Needs.{needs}
 use native.Mathlib.Omega.{arith}
-use mathlib.Core.Path.{_≡_, refl, sym, ap, _∙_}
-use mathlib.Core.List.{List, [], _∷_}
-use Prim.Native.Nat.{ℕ, _+_, _*_, _-_, _/_, _≤_, _<_}
-use lib.ListN.{length, take, getD, set, length-set}
-use lib.Seq.{take-all, length-take-le}
+use lib.ListN.{length-set}
 use denote.Ref.{now}
-use Rattle.numbers.specs.Put.{put, put-none, put-next, put-length}
-use Rattle.model.specs.Bytes.{wordsOf, bytesOf}
-use Rattle.model.proofs.ByteWords.{words-length}
-use Rattle.byte_words.specs.Words.{words-at, four-stores, bytes-none, bytes-more, bytes-kept}
+use Rattle.model.specs.Bytes.{bytesOf}
+use Rattle.byte_words.specs.Words.{four-stores}
 use Rattle.byte_words.proofs.write_word.Statement.{statement}
 use Rattle.byte_words.proofs.write_word.Tie as tie
 

@@ -1,5 +1,4 @@
 use borrow.Author.Needs.{needs}
-use mathlib.Core.Path.{_∙_}
 use Rattle.day_series.specs.Presence.{absent}
 use Rattle.day_series.proofs.class_absent.Statement.{statement}
 use Rattle.day_series.proofs.class_absent.Tie as tie

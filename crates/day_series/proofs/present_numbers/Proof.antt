@@ -1,9 +1,7 @@
 use borrow.Author.Needs.{needs}
 use mathlib.Core.Path.{_≡_, ap, _∙_}
-use mathlib.Core.Bool.{true}
-use Prim.Native.Nat.{ℕ, _≤_, _-_}
+use Prim.Native.Nat.{_≤_, _-_}
 use native.Mathlib.Omega.{arith}
-use lib.ListN.{set}
 use Rattle.model.specs.DayFile.{classCount}
 use Rattle.day_series.specs.Presence.{presence, none-present, more-present}
 use Rattle.day_series.proofs.present_numbers.Statement.{statement}

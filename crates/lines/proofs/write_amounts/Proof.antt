@@ -1,7 +1,7 @@
 use borrow.Author.Needs.{needs}
 use native.Mathlib.Omega.{arith}
 use mathlib.Core.Path.{_≡_, refl, ap, _∙_}
-use Prim.Native.Nat.{_+_, _*_, _-_, _≤_, _<_}
+use Prim.Native.Nat.{_+_, _*_, _-_, _≤_}
 use lib.IntN.{pos}
 use lib.ListN.{length, take, getD}
 use denote.Ref.{now}

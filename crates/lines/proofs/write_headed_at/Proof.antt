@@ -1,5 +1,4 @@
 use borrow.Author.Needs.{needs}
-use mathlib.Core.Path.{_≡_}
 use mathlib.Core.List.{_∷_}
 use denote.Ref.{now}
 use Rattle.numbers.specs.Put.{put-part}

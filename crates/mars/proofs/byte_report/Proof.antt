@@ -1,10 +1,7 @@
 use native.Mathlib.Omega.{arith}
-use mathlib.Core.Path.{_≡_, sym, ap, _∙_}
-use mathlib.Core.Bool.{Bool, true, false}
-use mathlib.Core.List.{List}
+use mathlib.Core.Path.{sym, _∙_}
 use lib.ListN.{length}
 use denote.Ref.{now}
-use Rattle.model.specs.Bytes.{badBytes}
 use Rattle.mars.specs.Bytes.{day-refused, batch-refused, words-answer, bytes-of, short-enough}
 use borrow.Author.Needs.{needs}
 use Rattle.mars.proofs.byte_report.Statement.{statement}

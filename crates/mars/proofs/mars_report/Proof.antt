@@ -1,6 +1,6 @@
 use native.Mathlib.Omega.{arith}
 use mathlib.Core.Path.{_≡_, ap, _∙_}
-use Prim.Native.Nat.{ℕ, _+_, _*_, _^_, _<_}
+use Prim.Native.Nat.{_+_, _*_, _^_}
 use lib.ListN.{length}
 use denote.Ref.{now}
 use Rattle.model.specs.Answers.{statusOf, valueOf}

@@ -1,14 +1,13 @@
 use native.Mathlib.Omega.{arith}
-use mathlib.Core.Path.{_≡_, sym, ap, _∙_}
-use mathlib.Core.List.{List}
-use Prim.Native.Nat.{ℕ, _/_, _≤_}
+use mathlib.Core.Path.{sym, ap, _∙_}
+use Prim.Native.Nat.{_/_}
 use lib.ListN.{length, take}
 use lib.Seq.{length-take-le}
 use denote.Ref.{now}
 use Rattle.model.specs.Bytes.{wordsOf, writtenBytes}
 use Rattle.model.specs.Calls.{answer, report}
 use Rattle.model.proofs.ByteWords.{words-length}
-use Rattle.mars.specs.Room.{roomOf, room-most, put-take}
+use Rattle.mars.specs.Room.{room-most, put-take}
 use borrow.Author.Needs.{needs}
 use Rattle.mars.proofs.report_decoded.Statement.{statement}
 use Rattle.mars.proofs.report_decoded.Tie as tie

@@ -1,16 +1,16 @@
 use native.Mathlib.Omega.{arith}
-use mathlib.Core.Path.{_≡_, refl, sym, ap, _∙_}
+use mathlib.Core.Path.{_≡_, sym, ap, _∙_}
 use mathlib.Core.List.{List, _++_}
-use Prim.Native.Nat.{ℕ, _*_, _/_, _≤_}
+use Prim.Native.Nat.{ℕ, _*_, _≤_}
 use lib.ListN.{length, take, drop}
 use denote.Ref.{now}
 use Rattle.numbers.specs.Put.{put, put-front}
 use Rattle.model.specs.declared.Answer.{Answer}
 use Rattle.model.specs.declared.Answer.the-variants.{Report}
 use Rattle.model.specs.Bytes.{bytesOf, writtenBytes}
-use Rattle.model.specs.Calls.{answer, report, memoryAfter}
+use Rattle.model.specs.Calls.{answer, report}
 use Rattle.byte_words.specs.Words.{bytes-length}
-use Rattle.mars.specs.Room.{roomOf, room-most, room-fits, answer-room, answer-fits, report-front}
+use Rattle.mars.specs.Room.{room-most, room-fits, answer-room, answer-fits, report-front}
 use borrow.Author.Needs.{needs}
 use Rattle.mars.proofs.report_words.Statement.{statement}
 use Rattle.mars.proofs.report_words.Tie as tie

@@ -1,5 +1,4 @@
 use borrow.Author.Needs.{needs}
-use mathlib.Core.Path.{_≡_, sym, ap, _∙_}
 use Rattle.model.specs.Netting.{nettingCheck}
 use Rattle.netting.proofs.check_nets.Statement.{statement}
 use Rattle.netting.proofs.check_nets.Tie as tie

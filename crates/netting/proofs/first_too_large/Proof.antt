@@ -1,8 +1,7 @@
 use borrow.Author.Needs.{needs}
 use native.Mathlib.Omega.{arith}
 use mathlib.Core.Path.{_≡_}
-use Prim.Native.Nat.{_≤_, _<_, _-_}
-use denote.Ref.{now}
+use Prim.Native.Nat.{_≤_, _-_}
 use Rattle.numbers.specs.Scan.{firstBad, scan}
 use Rattle.numbers.specs.declared.Found.the-variants.{Nothing}
 use Rattle.model.specs.Netting.{row30}

@@ -3,7 +3,6 @@ use native.Mathlib.Omega.{arith}
 use mathlib.Core.Path.{_≡_, sym, ap, _∙_}
 use mathlib.Core.List.{List}
 use Prim.Native.Nat.{ℕ, _≤_, _<_, _+_, _-_, _*_}
-use lib.IntN.{ℤ, pos}
 use lib.ListN.{length}
 use denote.Ref.{now}
 use Rattle.numbers.specs.Slots.{slots, slots-none}

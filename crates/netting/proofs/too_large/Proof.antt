@@ -1,20 +1,19 @@
 use borrow.Author.Needs.{needs}
 use native.Mathlib.Nat.{mul-le-mul}
 use native.Mathlib.Omega.{arith}
-use mathlib.Core.Path.{_≡_, sym, ap, _∙_}
+use mathlib.Core.Path.{_≡_, ap, _∙_}
 use mathlib.Core.List.{List}
-use Prim.Native.Nat.{ℕ, _+_, _*_, _/_, _%_, _^_, _≤_, _<_}
+use Prim.Native.Nat.{ℕ, _*_, _%_, _^_, _≤_}
 use lib.Dec.{ltb}
-use lib.IntN.{ℤ, pos, natAbs}
+use lib.IntN.{pos, natAbs}
 use lib.ListN.{length, getD}
 use denote.Ref.{now}
 use mir.Syntax.{w64}
 use mir.Val.{toZ, ofZ}
 use Rattle.numbers.specs.Table.{length-tabulate}
 use Rattle.model.specs.DayFile.{multiplier, seriesWord}
-use Rattle.model.specs.Batch.{recordCount, key, place}
+use Rattle.model.specs.Batch.{key, place}
 use Rattle.model.specs.Netting.{net, row30}
-use Rattle.netting.specs.Limits.{Limited}
 use Rattle.netting.specs.Laws.{net-limit, net-read}
 use Rattle.netting.proofs.too_large.Statement.{statement}
 use Rattle.netting.proofs.too_large.Tie as tie

@@ -1,4 +1,4 @@
-use mathlib.Core.Path.{_≡_, sym, _∙_}
+use mathlib.Core.Path.{sym, _∙_}
 use denote.Ref.{now}
 use Rattle.program.specs.Files.{unopened-day, bad-day, unopened-batch, opened, opened-bytes}
 use borrow.Author.Needs.{needs}

@@ -2,18 +2,17 @@ use borrow.Author.Needs.{needs}
 use mathlib.Core.Path.{_≡_, refl, sym, ap, _∙_}
 use mathlib.Core.List.{List}
 use Prim.Native.Nat.{ℕ}
-use lib.IntN.{ℤ, pos}
+use lib.IntN.{pos}
 use lib.ListN.{length}
 use denote.Ref.{now}
-use Rattle.numbers.specs.Table.{tabulate, replicate-tabulate}
+use Rattle.numbers.specs.Table.{replicate-tabulate}
 use Rattle.model.specs.declared.Verdict.{Verdict}
 use Rattle.model.specs.declared.Verdict.the-variants.{Passed}
-use Rattle.model.specs.Netting.{net, dvp, nettingCheck}
-use Rattle.model.specs.Calls.{Accepted, answerOf, roomAnswer, needed, report, written}
-use Rattle.model.specs.Report.{wordsNeeded}
+use Rattle.model.specs.Netting.{nettingCheck}
+use Rattle.model.specs.Calls.{Accepted, answerOf, roomAnswer, needed, written}
 use Rattle.model.proofs.Accepted.{DayRows, BatchChecks, day-checked, batch-checked, all-passed, batch-rows}
 use Rattle.netting.specs.Limits.{limited, placed}
-use Rattle.report.specs.Calls.{answer-day, answer-batch, answer-checked, memory-of, tables-budget, tables-report, tables-needed}
+use Rattle.report.specs.Calls.{tables-budget, tables-report, tables-needed}
 use Rattle.report.proofs.report_checked.Statement.{statement}
 use Rattle.report.proofs.report_checked.Tie as tie
 

@@ -1,4 +1,3 @@
-use borrow.Author.Needs.{needs}
 use native.Mathlib.Omega.{arith}
 use Rattle.words.specs.Signed.{plus-cast, plus-abs, minus-fits, minus-cast, minus-abs}
 use Rattle.words.proofs.size.Statement.{statement}

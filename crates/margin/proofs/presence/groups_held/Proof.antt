@@ -4,7 +4,6 @@ use mathlib.Core.Path.{_≡_, ap, _∙_}
 use mathlib.Core.Bool.{Bool, false, _||_}
 use mathlib.Core.List.{List}
 use Prim.Native.Nat.{ℕ, _+_, _-_, _≤_, _<_}
-use lib.IntN.{ℤ}
 use lib.ListN.{getD, set}
 use Rattle.numbers.specs.Flags.{flag, flags-none, flags-more}
 use Rattle.numbers.specs.Table.{getD-tabulate}

@@ -1,14 +1,13 @@
 use borrow.Author.Needs.{needs}
 use native.Mathlib.Omega.{arith}
-use mathlib.Core.Path.{_≡_, refl, sym, ap, _∙_}
-use mathlib.Core.Bool.{Bool}
-use mathlib.Core.List.{List, [], _++_}
-use Prim.Native.Nat.{ℕ, _+_, _*_, _-_, _≤_, _<_}
+use mathlib.Core.Path.{_≡_, sym, ap, _∙_}
+use mathlib.Core.List.{List}
+use Prim.Native.Nat.{ℕ, _+_, _-_, _≤_}
 use lib.Count.{ones, ones-le}
-use lib.IntN.{ℤ, pos}
+use lib.IntN.{ℤ}
 use lib.ListN.{length, length-append}
 use denote.Ref.{now}
-use Rattle.numbers.specs.Maps.{blocks, blocks-none}
+use Rattle.numbers.specs.Maps.{blocks-none}
 use Rattle.numbers.specs.Put.{put, put-none, put-put, put-length}
 use Rattle.numbers.specs.Sums.{sumWhere, sumWhere-zero}
 use Rattle.model.specs.Report.{lineWords, bookLines}

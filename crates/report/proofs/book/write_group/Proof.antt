@@ -1,18 +1,18 @@
 use native.Mathlib.Omega.{arith}
 use mathlib.Core.Path.{_≡_, refl, sym, ap, _∙_}
-use mathlib.Core.Bool.{Bool, true, false, cond}
+use mathlib.Core.Bool.{Bool, true, cond}
 use mathlib.Core.List.{List, [], _∷_}
-use Prim.Native.Nat.{ℕ, _+_, _*_, _^_, _≤_, _<_}
-use lib.IntN.{ℤ, pos, natAbs, _+ℤ_}
+use Prim.Native.Nat.{ℕ, _+_, _*_, _≤_}
+use lib.IntN.{ℤ, _+ℤ_}
 use lib.ListN.{length}
 use denote.Ref.{now}
 use mir.Syntax.{w64}
 use mir.Val.{toZ, ofZ}
-use Rattle.numbers.specs.Abs.{back, told, fits-by, natAbs-+}
+use Rattle.numbers.specs.Abs.{back, told, fits-by}
 use Rattle.numbers.specs.Put.{put, put-none}
 use Rattle.numbers.specs.Sums.{sumWhere, sumWhere-yes, sumWhere-no}
 use Rattle.model.specs.Words.{word}
-use Rattle.model.specs.Report.{wordsOfAmounts, bookMap, lineWords}
+use Rattle.model.specs.Report.{wordsOfAmounts, lineWords}
 use Rattle.model.specs.Steps.Lines.{hasLine}
 use Rattle.model.specs.Steps.Margin.{margin, lineAmounts}
 use Rattle.model.proofs.Bounds.{margin-small, total-so-far}

@@ -1,9 +1,8 @@
 use borrow.Author.Needs.{needs}
 use native.Mathlib.Omega.{arith}
-use native.Mathlib.Nat.{le-trans}
 use mathlib.Core.Path.{_≡_, refl, sym, ap, _∙_}
 use mathlib.Core.Bool.{Bool, false}
-use Prim.Native.Nat.{ℕ, _+_, _*_, _-_, _^_, _≤_, _<_}
+use Prim.Native.Nat.{ℕ, _-_, _^_, _≤_, _<_}
 use denote.Ref.{now}
 use lib.ListN.{getD}
 use lib.Pow.{pow-mono}

@@ -1,27 +1,17 @@
 use borrow.Author.Needs.{needs}
 use native.Mathlib.Omega.{arith}
 use mathlib.Core.Path.{_≡_, refl, sym, ap, _∙_}
-use mathlib.Core.List.{List, [], _∷_, _++_}
-use Prim.Native.Nat.{ℕ, _+_, _*_, _^_, _≤_, _<_}
-use lib.Count.{ones, ones-le}
-use lib.IntN.{ℤ, pos, _+ℤ_}
-use lib.ListN.{length, length-append}
+use mathlib.Core.List.{List, _++_}
+use Prim.Native.Nat.{ℕ, _+_, _*_, _≤_}
+use lib.IntN.{ℤ}
+use lib.ListN.{length}
 use denote.Ref.{now}
-use mir.Syntax.{w64}
-use mir.Val.{toZ, ofZ}
-use Rattle.numbers.specs.Abs.{back, told, fits-by}
-use Rattle.numbers.specs.Put.{put, put-front, put-put}
-use Rattle.model.specs.Words.{word}
-use Rattle.model.specs.Report.{wordsOfAmounts, bookLines, totals, reportWords, wordsNeeded}
-use Rattle.model.specs.Steps.Lines.{total}
-use Rattle.model.proofs.Bounds.{total-small, account-small}
+use Rattle.numbers.specs.Put.{put-front}
+use Rattle.model.specs.Report.{reportWords, wordsNeeded}
 use Rattle.model.proofs.Length.{report-length}
-use Rattle.model.proofs.Read.{map-small}
-use Rattle.lines.specs.Amounts.{Small, words-length}
 use Rattle.classes.specs.Tables.{entry}
 use borrow.Author.Tests.{le-leb, lt-leb}
 use lib.ListN.{drop}
-use Rattle.model.specs.Calls.{roomAnswer, written}
 use Rattle.report.specs.Whole.{needed-is}
 use Rattle.report.proofs.whole.report_accepted.Statement.{statement}
 use Rattle.report.proofs.whole.report_accepted.Tie as tie

@@ -1,7 +1,7 @@
 use borrow.Author.Needs.{needs}
 use native.Mathlib.Omega.{arith}
-use mathlib.Core.Path.{_≡_, _∙_}
-use mathlib.Core.List.{List, [], _∷_}
+use mathlib.Core.Path.{_∙_}
+use mathlib.Core.List.{[], _∷_}
 use lib.ListN.{length-set}
 use denote.Ref.{now}
 use Rattle.numbers.specs.Put.{put}

@@ -1,25 +1,24 @@
 use borrow.Author.Needs.{needs}
 use native.Mathlib.Omega.{arith}
-use mathlib.Core.Path.{_≡_, refl, sym, ap, _∙_}
+use mathlib.Core.Path.{_≡_, ap, _∙_}
 use mathlib.Core.List.{List, [], _∷_, _++_}
 use Prim.Native.Nat.{ℕ, _+_, _*_, _^_, _≤_, _<_}
 use lib.Count.{ones, ones-le}
-use lib.IntN.{ℤ, pos, _+ℤ_}
+use lib.IntN.{ℤ, _+ℤ_}
 use lib.ListN.{length, length-append}
 use denote.Ref.{now}
 use mir.Syntax.{w64}
 use mir.Val.{toZ, ofZ}
 use Rattle.numbers.specs.Abs.{back, told, fits-by}
-use Rattle.numbers.specs.Put.{put, put-front, put-put}
+use Rattle.numbers.specs.Put.{put, put-put}
 use Rattle.model.specs.Words.{word}
-use Rattle.model.specs.Report.{wordsOfAmounts, bookLines, totals, reportWords, wordsNeeded}
+use Rattle.model.specs.Report.{wordsOfAmounts, bookLines, totals}
 use Rattle.model.specs.Steps.Lines.{total}
 use Rattle.model.proofs.Bounds.{total-small, account-small}
-use Rattle.model.proofs.Length.{report-length}
 use Rattle.model.proofs.Read.{map-small}
 use Rattle.lines.specs.Amounts.{Small, words-length}
 use Rattle.classes.specs.Tables.{entry}
-use Rattle.report.specs.Whole.{three, ends, report-parts, lines-length, needed-is, totals-small, three-totals}
+use Rattle.report.specs.Whole.{three, ends, report-parts, lines-length, totals-small, three-totals}
 use Rattle.report.proofs.whole.write_report.Statement.{statement}
 use Rattle.report.proofs.whole.write_report.Tie as tie
 

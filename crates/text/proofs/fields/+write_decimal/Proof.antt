@@ -1,13 +1,12 @@
 use borrow.Author.Needs.{needs}
 use native.Mathlib.Omega.{arith}
-use mathlib.Core.Path.{_≡_, sym, ap, _∙_}
-use mathlib.Core.List.{List, [], _∷_, _++_}
-use Prim.Native.Nat.{ℕ, _+_, _*_, _/_, _%_, _≤_, _<_}
-use lib.ListN.{length, length-append}
+use mathlib.Core.Path.{_∙_}
+use mathlib.Core.List.{[], _∷_}
+use Prim.Native.Nat.{ℕ, _+_, _/_, _%_, _<_}
 use denote.Ref.{now}
-use Rattle.numbers.specs.Put.{put, put-then}
+use Rattle.numbers.specs.Put.{put-then}
 use Rattle.model.specs.Printed.{decimal}
-use Rattle.text.specs.Digits.{digits-one, digits-more, decimal-length, tenth-length}
+use Rattle.text.specs.Digits.{digits-one, digits-more, tenth-length}
 use borrow.Fn.Kinds.{In}
 use borrow.Fn.PlainCycle.{Measures, is, falls, and}
 use Rattle.text.proofs.fields.write_byte.Reads as write-byte-reads

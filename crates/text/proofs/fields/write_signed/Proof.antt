@@ -1,18 +1,16 @@
 use borrow.Author.Needs.{needs}
 use native.Mathlib.Omega.{arith}
-use mathlib.Core.Path.{_≡_, sym, ap, _∙_}
+use mathlib.Core.Path.{_≡_, ap, _∙_}
 use mathlib.Core.Bool.{true, false}
-use mathlib.Core.List.{List, [], _∷_}
-use Prim.Native.Nat.{ℕ, _+_, _≤_}
-use lib.IntN.{ℤ, pos, natAbs}
+use mathlib.Core.List.{[], _∷_}
+use lib.IntN.{pos, natAbs}
 use lib.Signed.{ltZ}
-use lib.ListN.{length}
 use denote.Ref.{now}
 use mir.Facts.{toZ-ofZ}
 use mir.Syntax.{w64}
 use mir.Val.{toZ, ofZ}
-use Rattle.numbers.specs.Put.{put, put-then}
-use Rattle.model.specs.Printed.{decimal, signedDecimal}
+use Rattle.numbers.specs.Put.{put-then}
+use Rattle.model.specs.Printed.{decimal}
 use Rattle.text.specs.Digits.{signed-minus, signed-plain, decimal-length}
 use Rattle.text.proofs.fields.write_signed.Statement.{statement}
 use Rattle.text.proofs.fields.write_signed.Tie as tie

@@ -1,9 +1,5 @@
 use borrow.Author.Needs.{needs}
-use mathlib.Core.Path.{_≡_, ap, _∙_}
-use denote.Ref.{now}
-use Rattle.numbers.specs.Put.{put}
-use Rattle.model.specs.Answers.{numberOf, placeOf}
-use Rattle.model.specs.Printed.{refusalText}
+use mathlib.Core.Path.{_∙_}
 use Rattle.text.proofs.lines.write_answer.Statement.{statement}
 use Rattle.text.proofs.lines.write_answer.Tie as tie
 
