@@ -1,10 +1,13 @@
 -- What the functions of the steps are given: an accepted day file, and a table of nets by position key that keeps within a budget.
 use mathlib.Core.List.{List}
-use Prim.Native.Nat.{ℕ, _≤_}
+use mathlib.Core.Path.{_≡_}
+use Prim.Native.Nat.{ℕ, _+_, _*_, _≤_, _<_}
+use native.Mathlib.Omega.{arith}
 use lib.IntN.{ℤ, pos}
-use lib.ListN.{getD}
+use lib.ListN.{length, getD}
 use Rattle.model.specs.DayFile.{classCount, seriesCount}
 use Rattle.model.proofs.Accepted.{DayRows}
+use Rattle.model.proofs.Limits.{day-length}
 use Rattle.model.proofs.Nets.{few-series, few-classes}
 use Rattle.model.proofs.Records.{Budget}
 
@@ -15,6 +18,7 @@ entry t p = getD t p (pos 0)
 -- an accepted day file, and its counts
 pub record Day (d : List ℕ) : Type 0 where
   pub rows : DayRows d
+  pub whole : length d ≡ 1 + 20 * classCount d + 14 * seriesCount d
   pub classes : classCount d ≤ 64
   pub series : seriesCount d ≤ 256
 
@@ -24,9 +28,16 @@ pub record Given (d : List ℕ) (nets : List ℤ) : Type 0 where
   pub dvp : ℕ → ℤ
   pub budget : Budget d (entry nets) dvp
 
+-- the records of its classes and series are inside
+pub class-inside : {d : List ℕ} → Day d → {c : ℕ} → c < classCount d → 21 + 20 * c ≤ length d
+class-inside w h = omega (arith, w .whole)
+
+pub series-inside : {d : List ℕ} → Day d → {s : ℕ} → s < seriesCount d → 15 + 20 * classCount d + 14 * s ≤ length d
+series-inside w h = omega (arith, w .whole)
+
 -- what accepted files give
 pub accepted-day : (d : List ℕ) → DayRows d → Day d
-accepted-day d r = record { rows = r; classes = few-classes d r; series = few-series d r }
+accepted-day d r = record { rows = r; whole = day-length d r; classes = few-classes d r; series = few-series d r }
 
 pub given : (d : List ℕ) (nets : List ℤ) (v : ℕ → ℤ) → DayRows d → Budget d (entry nets) v → Given d nets
 given d nets v r w = record { day = accepted-day d r; dvp = v; budget = w }

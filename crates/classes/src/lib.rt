@@ -1,4 +1,5 @@
-// What the steps read: fields of the day file, amounts of positions, and where the series of each class stand.
-pub mod fields;
+// What the steps read: where the series of each class stand, prices at the ten points, and the amounts of positions.
+pub mod positions;
+pub mod prices;
 pub mod starts;
 pub mod worth;

@@ -8,7 +8,10 @@ ghost use Rattle.model.proofs.Accepted.{DayRows};
 ghost use Rattle.classes.specs.Tables.{Day};
 ghost use Rattle.classes.specs.Range.{startOf};
 ghost use Rattle.classes.specs.Starts.{reached, startTable};
-use crate::fields;
+use day_file::class_count;
+use day_file::class_number;
+use day_file::series_class_number;
+use day_file::series_count;
 
 // Series s is of class c or a later one.
 fn reaches(day: &[u32], c: usize, s: usize) -> bool
@@ -16,7 +19,7 @@ fn reaches(day: &[u32], c: usize, s: usize) -> bool
     requires { ⌜ (c < classCount (now day)) × (s < seriesCount (now day)) ⌝ }
     ensures { λ r. ⌜ r ≡ reached (now (day .entry)) c s ⌝ }
 {
-    fields::class_number(day, c) <= fields::series_class_number(day, s)
+    class_number(day, c) <= series_class_number(day, s)
 }
 
 // The first series of class c or a later one, none being below `from`.
@@ -26,7 +29,7 @@ fn start(day: &[u32], c: usize, from: usize) -> usize
     requires { ⌜ firstBad (reached (now day) c) from ≡ Nothing ⌝ }
     ensures { λ r. ⌜ r ≡ startOf (now (day .entry)) c ⌝ }
 {
-    let count = fields::series_count(day);
+    let count = series_count(day);
     let mut s = from;
     while s < count {
         if reaches(day, c, s) {
@@ -42,8 +45,8 @@ pub fn starts(day: &[u32]) -> [usize; 65]
     requires { ⌜ DayRows (now day) ⌝ }
     ensures { λ r. ⌜ r ≡ startTable (now (day .entry)) ⌝ }
 {
-    let classes = fields::class_count(day);
-    let mut table = [fields::series_count(day); 65];
+    let classes = class_count(day);
+    let mut table = [series_count(day); 65];
     let mut s: usize = 0;
     let mut c: usize = 0;
     while c < classes {

@@ -1,21 +1,23 @@
 // What a position is worth: net × multiplier × price.
 ghost use mathlib.Core.Path.{_≡_};
-ghost use Prim.Native.Nat.{_*_, _≤_, _<_, _^_};
+ghost use Prim.Native.Nat.{_+_, _*_, _≤_, _<_, _^_};
 ghost use lib.IntN.{pos, natAbs, _*ℤ_};
-ghost use Rattle.model.specs.DayFile.{multiplier};
+ghost use lib.ListN.{length};
+ghost use Rattle.model.specs.DayFile.{classCount, multiplier};
 ghost use Rattle.model.specs.Steps.Classes.{worth as worthOf, turned as turnedOf};
-use crate::fields;
 
 // Net × multiplier.
 pub fn contracts(day: &[u32], s: usize, net: i64) -> i64
-    requires { ⌜ (s < 512) × (natAbs net * multiplier (now day) s ≤ 2560000000) ⌝ }
+    requires { ⌜ 15 + 20 * classCount (now day) + 14 * s ≤ length (now day) ⌝ }
+    requires { ⌜ natAbs net * multiplier (now day) s ≤ 2560000000 ⌝ }
     ensures { λ r. ⌜ r ≡ net *ℤ pos (multiplier (now (day .entry)) s) ⌝ }
 {
-    amounts::mul(net, amounts::signed(fields::series_field(day, s, 1)))
+    amounts::mul(net, amounts::signed(day_file::multiplier(day, s)))
 }
 
 pub fn worth(day: &[u32], s: usize, net: i64, price: i64) -> i64
-    requires { ⌜ (s < 512) × (natAbs net * multiplier (now day) s ≤ 2560000000) × (natAbs price ≤ 500000000) ⌝ }
+    requires { ⌜ 15 + 20 * classCount (now day) + 14 * s ≤ length (now day) ⌝ }
+    requires { ⌜ (natAbs net * multiplier (now day) s ≤ 2560000000) × (natAbs price ≤ 500000000) ⌝ }
     ensures { λ r. ⌜ r ≡ worthOf (now (day .entry)) s net price ⌝ }
 {
     amounts::mul(contracts(day, s, net), price)

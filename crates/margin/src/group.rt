@@ -8,7 +8,6 @@ ghost use Rattle.classes.specs.Range.{Range};
 ghost use Rattle.classes.specs.Starts.{startTable};
 ghost use Rattle.margin.specs.Groups.{Small, noAmounts, added, classAmounts, amountsBelow};
 use crate::additional;
-use classes::fields;
 use points::accumulator::Points;
 use points::class_points;
 
@@ -39,7 +38,7 @@ fn class_amounts(
     let sides = spread::sides::total_sides(day, nets, book, c, a, b);
     let quantity = amounts::smaller(sides.long, sides.short);
     let whole = class_points::class_points(day, nets, book, c, a, b, quantity);
-    let after = additional::offset(whole, fields::class_field(day, c, 9));
+    let after = additional::offset(whole, day_file::offset(day, c));
     Amounts {
         spread: spread::amount::spread(day, nets, book, c, a, b, quantity),
         mtm: steps::mtm::mtm(day, nets, dvps, book, c, a, b),
@@ -100,7 +99,7 @@ fn add_class(
     requires { ⌜ sum ≡ amountsBelow (now day) (entry (now nets)) (entry (now dvps)) book g c ⌝ }
     ensures { λ r. ⌜ r ≡ amountsBelow (now (day .entry)) (entry (now (nets .entry))) (entry (now (dvps .entry))) book g (c + 1) ⌝ }
 {
-    if fields::index(fields::group_of(day, c)) != g {
+    if day_file::group(day, c) != g {
         return sum;
     }
     let a = starts[c];
@@ -123,7 +122,7 @@ pub fn group_amounts(
     requires { ⌜ now starts ≡ startTable (now day) ⌝ }
     ensures { λ r. ⌜ r ≡ amountsBelow (now (day .entry)) (entry (now (nets .entry))) (entry (now (dvps .entry))) book g (classCount (now (day .entry))) ⌝ }
 {
-    let classes = fields::class_count(day);
+    let classes = day_file::class_count(day);
     let mut sum = Amounts::new();
     let mut c: usize = 0;
     while c < classes {

@@ -10,15 +10,15 @@ ghost use Rattle.model.proofs.Accepted.{DayRows};
 ghost use Rattle.classes.specs.Tables.{entry};
 ghost use Rattle.classes.specs.Starts.{startTable};
 ghost use Rattle.margin.specs.Presence.{heldAt};
-use classes::fields;
+use classes::positions::position_amount;
 
 // A position has net or DVP not zero.
 fn position_held(nets: &[i64], dvps: &[i64], book: usize, x: usize, s: usize) -> bool
     requires { ⌜ (book < 2) × (x < 2) × (s < 512) ⌝ }
     ensures { λ r. ⌜ r ≡ held (entry (now (nets .entry))) (entry (now (dvps .entry))) (position book x s) ⌝ }
 {
-    amounts::not_zero(fields::position_amount(nets, book, x, s))
-        | amounts::not_zero(fields::position_amount(dvps, book, x, s))
+    amounts::not_zero(position_amount(nets, book, x, s))
+        | amounts::not_zero(position_amount(dvps, book, x, s))
 }
 
 // One of the positions of series s has.
@@ -57,11 +57,11 @@ pub fn groups_held(
     requires { ⌜ now starts ≡ startTable (now day) ⌝ }
     ensures { λ r. ⌜ r ≡ tabulate 32 (hasLine (now (day .entry)) (entry (now (nets .entry))) (entry (now (dvps .entry))) book) ⌝ }
 {
-    let classes = fields::class_count(day);
+    let classes = day_file::class_count(day);
     let mut present = [false; 32];
     let mut c: usize = 0;
     while c < classes {
-        let g = fields::index(fields::group_of(day, c));
+        let g = day_file::group(day, c);
         let a = starts[c];
         let b = starts[c + 1];
         let was = present[g];

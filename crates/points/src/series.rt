@@ -14,42 +14,46 @@ ghost use Rattle.spread.specs.Sides.{nonSpreadOf};
 ghost use Rattle.points.specs.Series.{openAdded, exercisedAdded};
 use crate::accumulator::Points;
 use crate::accumulator::Position;
-use classes::fields;
+use classes::positions::position_amount;
+use classes::prices;
 use classes::worth;
 use spread::sides::Sides;
 
 // An open position moves from the closing price to the theoretical prices.
 fn open_position(day: &[u32], s: usize, net: i64) -> Position
-    requires { ⌜ (s < 512) × (natAbs net * multiplier (now day) s ≤ 2560000000) ⌝ }
+    requires { ⌜ Day (now day) ⌝ }
+    requires { ⌜ (s < seriesCount (now day)) × (natAbs net * multiplier (now day) s ≤ 2560000000) ⌝ }
     ensures { λ r. ⌜ (r .contracts ≡ net *ℤ pos (multiplier (now (day .entry)) s)) × (r .base ≡ closing (now (day .entry)) s) × (r .prices ≡ tabulate 10 (theoretical (now (day .entry)) s)) ⌝ }
 {
-    let prices = fields::theoretical_prices(day, s);
+    let prices = prices::theoretical_prices(day, s);
     Position {
         contracts: worth::contracts(day, s, net),
-        base: fields::series_field(day, s, 3),
+        base: day_file::closing(day, s),
         prices: prices,
     }
 }
 
 // An exercised or assigned one moves from the underlying price to the projected ones, a put the other way.
 fn exercised_position(day: &[u32], c: usize, s: usize, net: i64) -> Position
-    requires { ⌜ (c < 64) × (s < 512) × (natAbs net * multiplier (now day) s ≤ 2560000000) ⌝ }
+    requires { ⌜ Day (now day) ⌝ }
+    requires { ⌜ (c < classCount (now day)) × (s < seriesCount (now day)) × (natAbs net * multiplier (now day) s ≤ 2560000000) ⌝ }
     ensures { λ r. ⌜ (r .contracts ≡ turned (seriesType (now (day .entry)) s) (net *ℤ pos (multiplier (now (day .entry)) s))) × (r .base ≡ underlying (now (day .entry)) c) × (r .prices ≡ tabulate 10 (projected (now (day .entry)) c)) ⌝ }
 {
-    let prices = fields::projected_prices(day, c);
+    let prices = prices::projected_prices(day, c);
     Position {
-        contracts: worth::turned(fields::series_type(day, s), worth::contracts(day, s, net)),
-        base: fields::class_field(day, c, 1),
+        contracts: worth::turned(day_file::series_type(day, s), worth::contracts(day, s, net)),
+        base: day_file::underlying(day, c),
         prices: prices,
     }
 }
 
 // The open net that counts: futures with only their non-spread net.
 fn counted_net(day: &[u32], s: usize, net: i64, quantity: i64, before: Sides) -> i64
-    requires { ⌜ (s < 512) × (natAbs quantity ≤ 2560000000) × (natAbs (before .short) ≤ 2560000000) × (natAbs (before .long) ≤ 2560000000) × (natAbs net ≤ 2560000000) ⌝ }
+    requires { ⌜ Day (now day) ⌝ }
+    requires { ⌜ (s < seriesCount (now day)) × (natAbs quantity ≤ 2560000000) × (natAbs (before .short) ≤ 2560000000) × (natAbs (before .long) ≤ 2560000000) × (natAbs net ≤ 2560000000) ⌝ }
     ensures { λ r. ⌜ r ≡ cond (isFuture (seriesType (now (day .entry)) s)) (nonSpreadOf quantity (before .short) (before .long) net) net ⌝ }
 {
-    if fields::series_type(day, s) != 1 {
+    if day_file::series_type(day, s) != 1 {
         return net;
     }
     spread::left::non_spread(quantity, before, net)
@@ -99,7 +103,7 @@ pub fn add_series(
     requires { ⌜ ((k : ℕ) → k < 10 → natAbs (getD (points .at) k (pos 0)) ≤ 1280000000000000000) ⌝ }
     ensures { λ r. ⌜ r .at ≡ tabulate 10 (λ k. getD (points .at) k (pos 0) +ℤ pointOf (now (day .entry)) (entry (now (nets .entry))) book c k s) ⌝ }
 {
-    let net = fields::position_amount(nets, book, 0, s);
+    let net = position_amount(nets, book, 0, s);
     let next = add_open(points, day, s, counted_net(day, s, net, quantity, before));
-    add_exercised(next, day, c, s, fields::position_amount(nets, book, 1, s))
+    add_exercised(next, day, c, s, position_amount(nets, book, 1, s))
 }

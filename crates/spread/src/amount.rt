@@ -7,7 +7,6 @@ ghost use Rattle.classes.specs.Tables.{entry, Given};
 ghost use Rattle.classes.specs.Range.{Range};
 ghost use Rattle.spread.specs.Sides.{spreadAmount};
 use crate::spot;
-use classes::fields;
 
 // Spot spread and non-spot spread, each times its rate.
 fn spread_amount(spot: i64, quantity: i64, near_rate: u32, far_rate: u32) -> i64
@@ -39,7 +38,7 @@ pub fn spread(
     ensures { λ r. ⌜ r ≡ spreadOf (now (day .entry)) (entry (now (nets .entry))) book c ⌝ }
 {
     let spot = spot::spot_size(day, nets, book, c, a, b);
-    let spot_rate = fields::class_field(day, c, 2);
-    let rate = fields::class_field(day, c, 3);
+    let spot_rate = day_file::spot_rate(day, c);
+    let rate = day_file::non_spot_rate(day, c);
     spread_amount(spot, quantity, spot_rate, rate)
 }

@@ -7,7 +7,7 @@ ghost use Rattle.model.specs.Steps.Spread.{shortSide, longSide, totalShort, tot
 ghost use Rattle.classes.specs.Tables.{entry, Given};
 ghost use Rattle.classes.specs.Range.{Range};
 ghost use Rattle.spread.specs.Sides.{futureShort, futureLong};
-use classes::fields;
+use classes::positions::position_amount;
 
 // The two sides of some futures: contracts net short and net long.
 pub struct Sides {
@@ -42,10 +42,10 @@ impl Sides {
         requires { ⌜ (natAbs (self .short) ≤ 2560000000) × (natAbs (self .long) ≤ 2560000000) ⌝ }
         ensures { λ r. ⌜ (r .short ≡ self .short +ℤ futureShort (now (day .entry)) (entry (now (nets .entry))) book s) × (r .long ≡ self .long +ℤ futureLong (now (day .entry)) (entry (now (nets .entry))) book s) ⌝ }
     {
-        if fields::series_type(day, s) != 1 {
+        if day_file::series_type(day, s) != 1 {
             return self;
         }
-        let z = fields::position_amount(nets, book, 0, s);
+        let z = position_amount(nets, book, 0, s);
         Sides {
             short: amounts::add(self.short, short_side(z)),
             long: amounts::add(self.long, long_side(z)),

@@ -1,21 +1,23 @@
 // The spot: the future held with the earliest expiry.
 ghost use mathlib.Core.Path.{_≡_};
 ghost use Prim.Native.Nat.{_<_};
+ghost use Rattle.model.specs.DayFile.{seriesCount};
 ghost use Rattle.model.specs.Steps.Spread.{spotSize};
-ghost use Rattle.classes.specs.Tables.{entry, Given};
+ghost use Rattle.classes.specs.Tables.{entry, Day, Given};
 ghost use Rattle.classes.specs.Range.{Range};
 ghost use Rattle.spread.specs.Sides.{heldHere};
-use classes::fields;
+use classes::positions::position_amount;
 
 // Series s of the class is a future with a non-zero net.
 fn held_future(day: &[u32], nets: &[i64], book: usize, s: usize) -> bool
-    requires { ⌜ (book < 2) × (s < 256) ⌝ }
+    requires { ⌜ Day (now day) ⌝ }
+    requires { ⌜ (book < 2) × (s < seriesCount (now day)) ⌝ }
     ensures { λ r. ⌜ r ≡ heldHere (now (day .entry)) (entry (now (nets .entry))) book s ⌝ }
 {
-    if fields::series_type(day, s) != 1 {
+    if day_file::series_type(day, s) != 1 {
         return false;
     }
-    amounts::not_zero(fields::position_amount(nets, book, 0, s))
+    amounts::not_zero(position_amount(nets, book, 0, s))
 }
 
 // The absolute net of the spot: the first future held, which has the earliest expiry.
@@ -28,7 +30,7 @@ pub fn spot_size(day: &[u32], nets: &[i64], book: usize, c: usize, a: usize, b: 
     let mut s = a;
     while s < b {
         if held_future(day, nets, book, s) {
-            return amounts::size(fields::position_amount(nets, book, 0, s));
+            return amounts::size(position_amount(nets, book, 0, s));
         }
         s = s + 1;
     }

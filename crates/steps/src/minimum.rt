@@ -1,13 +1,14 @@
 // Step 7: minimum margin of a class.
 ghost use mathlib.Core.Path.{_≡_};
-ghost use Prim.Native.Nat.{_≤_, _<_};
+ghost use Prim.Native.Nat.{_+_, _*_, _≤_, _<_};
 ghost use lib.IntN.{pos, natAbs, _*ℤ_};
+ghost use lib.ListN.{length};
 ghost use Rattle.numbers.specs.Extremes.{absZ};
 ghost use Rattle.numbers.specs.Table.{tabulate};
 ghost use Rattle.model.specs.Steps.Minimum.{minimumRate, typeNet, minimum as minimumOf};
 ghost use Rattle.classes.specs.Tables.{entry, Given};
 ghost use Rattle.classes.specs.Range.{Range};
-use classes::fields;
+use classes::positions::position_amount;
 
 // The open nets of the class summed within each type, by type, in one pass.
 fn type_nets(day: &[u32], nets: &[i64], book: usize, c: usize, a: usize, b: usize) -> [i64; 16]
@@ -19,9 +20,9 @@ fn type_nets(day: &[u32], nets: &[i64], book: usize, c: usize, a: usize, b: usiz
     let mut sums = [0i64; 16];
     let mut s = a;
     while s < b {
-        let kind = fields::index(fields::series_type(day, s));
+        let kind = words::index(day_file::series_type(day, s));
         let was = sums[kind];
-        sums[kind] = amounts::add(was, fields::position_amount(nets, book, 0, s));
+        sums[kind] = amounts::add(was, position_amount(nets, book, 0, s));
         s = s + 1;
     }
     sums
@@ -29,25 +30,25 @@ fn type_nets(day: &[u32], nets: &[i64], book: usize, c: usize, a: usize, b: usiz
 
 // The rate of a type: calls and puts both have the options rate.
 fn minimum_rate(day: &[u32], c: usize, kind: usize) -> u32
-    requires { ⌜ c < 64 ⌝ }
+    requires { ⌜ 21 + 20 * c ≤ length (now day) ⌝ }
     ensures { λ r. ⌜ r ≡ minimumRate (now (day .entry)) c kind ⌝ }
 {
     if kind == 1 {
-        return fields::class_field(day, c, 5);
+        return day_file::future_rate(day, c);
     }
     if kind == 2 {
-        return fields::class_field(day, c, 4);
+        return day_file::option_rate(day, c);
     }
     if kind == 3 {
-        return fields::class_field(day, c, 4);
+        return day_file::option_rate(day, c);
     }
     if kind == 4 {
-        return fields::class_field(day, c, 6);
+        return day_file::equity_rate(day, c);
     }
     if kind == 5 {
-        return fields::class_field(day, c, 7);
+        return day_file::warrant_rate(day, c);
     }
-    fields::class_field(day, c, 8)
+    day_file::rights_rate(day, c)
 }
 
 // The absolute value of a type's sum times its rate.

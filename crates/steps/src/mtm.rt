@@ -8,14 +8,8 @@ ghost use Rattle.model.specs.Steps.Mtm.{mtmOf, mtm as mtmSum};
 ghost use Rattle.model.proofs.Records.{Budget};
 ghost use Rattle.classes.specs.Tables.{entry, Given};
 ghost use Rattle.classes.specs.Range.{Range};
-use classes::fields;
+use classes::positions::position_amount;
 use classes::worth;
-
-fn is_security(kind: u32) -> bool
-    ensures { λ r. ⌜ r ≡ isSecurity kind ⌝ }
-{
-    (4 <= kind) & (kind <= 6)
-}
 
 // Of series s, if it is a security: net × multiplier × closing price − DVP. A net of 0 keeps its DVP.
 fn series_mtm(day: &[u32], nets: &[i64], dvps: &[i64], book: usize, s: usize) -> i64
@@ -24,13 +18,13 @@ fn series_mtm(day: &[u32], nets: &[i64], dvps: &[i64], book: usize, s: usize) ->
     requires { ⌜ (book < 2) × (s < seriesCount (now day)) ⌝ }
     ensures { λ r. ⌜ r ≡ cond (isSecurity (seriesType (now (day .entry)) s)) (mtmOf (now (day .entry)) (entry (now (nets .entry))) (entry (now (dvps .entry))) book s) (pos 0) ⌝ }
 {
-    if !is_security(fields::series_type(day, s)) {
+    if !day_file::is_security(day_file::series_type(day, s)) {
         return 0;
     }
-    let net = fields::position_amount(nets, book, 0, s);
-    let price = amounts::signed(fields::series_field(day, s, 3));
+    let net = position_amount(nets, book, 0, s);
+    let price = amounts::signed(day_file::closing(day, s));
     let value = worth::worth(day, s, net, price);
-    amounts::sub(value, fields::position_amount(dvps, book, 0, s))
+    amounts::sub(value, position_amount(dvps, book, 0, s))
 }
 
 // Of a class.

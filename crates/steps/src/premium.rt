@@ -7,14 +7,8 @@ ghost use Rattle.model.specs.DayFile.{classCount, seriesCount, seriesType, isOp
 ghost use Rattle.model.specs.Steps.Premium.{inTheMoney, premiumOf, premium as premiumSum};
 ghost use Rattle.classes.specs.Tables.{entry, Day, Given};
 ghost use Rattle.classes.specs.Range.{Range};
-use classes::fields;
+use classes::positions::position_amount;
 use classes::worth;
-
-fn is_option(kind: u32) -> bool
-    ensures { λ r. ⌜ r ≡ isOption kind ⌝ }
-{
-    (kind == 2) | (kind == 3)
-}
 
 // Underlying − strike for a call, strike − underlying for a put, negative where it is so.
 fn in_the_money(day: &[u32], c: usize, s: usize) -> i64
@@ -22,10 +16,10 @@ fn in_the_money(day: &[u32], c: usize, s: usize) -> i64
     requires { ⌜ (c < classCount (now day)) × (s < seriesCount (now day)) ⌝ }
     ensures { λ r. ⌜ r ≡ inTheMoney (now (day .entry)) c s ⌝ }
 {
-    let underlying = amounts::signed(fields::class_field(day, c, 1));
-    let strike = amounts::signed(fields::series_field(day, s, 2));
+    let underlying = amounts::signed(day_file::underlying(day, c));
+    let strike = amounts::signed(day_file::strike(day, s));
     worth::turned(
-        fields::series_type(day, s),
+        day_file::series_type(day, s),
         amounts::sub(underlying, strike),
     )
 }
@@ -36,13 +30,13 @@ fn series_premium(day: &[u32], nets: &[i64], book: usize, c: usize, s: usize) ->
     requires { ⌜ (book < 2) × (c < classCount (now day)) × (s < seriesCount (now day)) ⌝ }
     ensures { λ r. ⌜ r ≡ cond (isOption (seriesType (now (day .entry)) s)) (premiumOf (now (day .entry)) (entry (now (nets .entry))) book c s) (pos 0) ⌝ }
 {
-    if !is_option(fields::series_type(day, s)) {
+    if !day_file::is_option(day_file::series_type(day, s)) {
         return 0;
     }
-    let net = fields::position_amount(nets, book, 0, s);
-    let price = amounts::signed(fields::series_field(day, s, 3));
+    let net = position_amount(nets, book, 0, s);
+    let price = amounts::signed(day_file::closing(day, s));
     let open = worth::worth(day, s, net, price);
-    let taken = fields::position_amount(nets, book, 1, s);
+    let taken = position_amount(nets, book, 1, s);
     let exercised = worth::worth(day, s, taken, in_the_money(day, c, s));
     amounts::add(open, exercised)
 }

@@ -14,7 +14,7 @@ product-is : (c : tie.After-signed)
     → toZ w64 (ofZ w64 (c .before .before .before .args .net)) *ℤ toZ w64 (ofZ w64 (c .signed .result))
     ≡ (let x = c .before .before .before .args in x .net *ℤ pos (multiplier (x .day .now) (x .s)))
 product-is c =
-    λ i. toZ-ofZ (c .before .before .before .fits .net) i *ℤ told (c .signed .ok) (c .signed .ensures ∙ ap pos (c .before .series-field .ensures)) i
+    λ i. toZ-ofZ (c .before .before .before .fits .net) i *ℤ told (c .signed .ok) (c .signed .ensures ∙ ap pos (c .before .multiplier .ensures)) i
 
 pub contracts-spec : {M : Type 1} → statement M
 contracts-spec =

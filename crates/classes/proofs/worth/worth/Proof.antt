@@ -12,7 +12,7 @@ use Rattle.classes.proofs.worth.worth.Statement.{statement}
 use Rattle.classes.proofs.worth.worth.Tie as tie
 
 contracts-requires : tie.Need-contracts-requires
-contracts-requires c κs = (c .before .pre .0, rw (toZ-ofZ (c .before .fits .net)) (c .before .pre .1))
+contracts-requires c κs = (c .before .pre .0, rw (toZ-ofZ (c .before .fits .net)) (c .before .pre .1 .0))
 
 product-is : (c : tie.After-contracts)
     → toZ w64 (ofZ w64 (c .contracts .result)) *ℤ toZ w64 (ofZ w64 (c .before .before .args .price))
@@ -30,5 +30,5 @@ worth-spec =
     (λ c κs.
     let a = c .before .before in
     let x = a .args in
-    fits-by (product-is c) (omega (arith, worth-bound (x .day .now) (x .s) (x .net) (x .price) 256 (a .pre .1) (a .pre .2))))
+    fits-by (product-is c) (omega (arith, worth-bound (x .day .now) (x .s) (x .net) (x .price) 256 (a .pre .1 .0) (a .pre .1 .1))))
     (λ c. told (c .mul .ok) (c .mul .ensures ∙ product-is (c .before))))

@@ -1,6 +1,6 @@
 use borrow.Author.Needs.{needs}
 use native.Mathlib.Omega.{arith}
-use mathlib.Core.Path.{_≡_, sym, subst, _∙_}
+use mathlib.Core.Path.{sym, subst, _∙_}
 use mathlib.Core.List.{List}
 use Prim.Native.Nat.{ℕ, _+_}
 use lib.IntN.{ℤ}
@@ -44,37 +44,33 @@ module _ (x : tie.Start) where
   stretch : Range d c (getD (x .args .starts .now) c 0) (getD (x .args .starts .now) (c + 1) 0)
   stretch = table-range d (x .args .starts .now) c (x .pre .0 .day) (x .pre .1 .1 .1 .0) (x .pre .1 .1 .0 .2)
 
-group-is : (p : tie.After-index) → p .index .result ≡ (let x = p .before .before .before in group (d x) (c x))
-group-is p = p .index .ensures ∙ p .before .group-of .ensures
-
 returns : tie.Need-returns
 returns p =
-    let x = p .before .before .before .before in
-    x .pre .1 .1 .1 .1 ∙ class-skipped (d x) (n x) (v x) (k x) (g x) (c x) (λ e. p .if1 .taken (group-is (p .before) ∙ e))
+    let x = p .before .before .before in
+    x .pre .1 .1 .1 .1 ∙ class-skipped (d x) (n x) (v x) (k x) (g x) (c x) (λ e. p .if1 .taken (p .before .group .ensures ∙ e))
 
 class-amounts-requires : tie.Need-class-amounts-requires
 class-amounts-requires p κs =
-    let x = p .before .before .before .before .before .before in
+    let x = p .before .before .before .before .before in
     (x .pre .0, (x .pre .1 .0, (x .pre .1 .1 .0 .0, stretch x)))
 
 add-requires : tie.Need-add-requires
 add-requires p κs =
-    let x = p .before .before .before .before .before .before .before in
+    let x = p .before .before .before .before .before .before in
     (small x, subst Small (sym (p .class-amounts .ensures)) (class-fits x))
 
 returns-2 : tie.Need-returns-2
 returns-2 p =
     let m = p .before in
     let i = m .before .before .before in
-    let x = i .before .before .before .before in
+    let x = i .before .before .before in
     p .add .ensures ∙ (λ j. added (x .pre .1 .1 .1 .1 j) (m .class-amounts .ensures j))
-    ∙ class-added (d x) (n x) (v x) (k x) (g x) (c x) (sym (group-is (i .before)) ∙ i .if1 .left)
+    ∙ class-added (d x) (n x) (v x) (k x) (g x) (c x) (sym (i .before .group .ensures) ∙ i .if1 .left)
 
 pub add-class-spec : {M : Type 1} → statement M
 add-class-spec =
     tie.close
     (tie.spec
-    (λ c κs. search needs)
     (λ c κs. search needs)
     returns
     (λ c. search needs)

@@ -54,12 +54,12 @@ class-points-requires p κs =
     let x = p .before .before .before .before .before in
     (x .pre .0, (x .pre .1 .1 .0, (r x, quantity-is p)))
 
-offset-requires : tie.Need-offset-requires
-offset-requires p κs =
+offset-requires-2 : tie.Need-offset-requires-2
+offset-requires-2 p κs =
     let q = p .before in
     let x = q .before .before .before .before .before .before in
     let w = x .pre .0 in (
-      rw (p .class-field .ensures) (offset-limit (d x) (w .day .rows) (c x) (r x .class)),
+      rw (p .offset .ensures) (offset-limit (d x) (w .day .rows) (c x) (r x .class)),
       (λ j h.
           rw (q .class-points .ensures, getD-tabulate 10 (classPoint (d x) (n x) (k x) (c x)) j (pos 0) h)
           (class-point (d x) (n x) (w .dvp) (w .day .rows) (w .budget) (k x) (c x) (x .pre .1 .1 .0) (r x .class) j h)),
@@ -97,8 +97,8 @@ returns p =
       points =
           record {
             at =
-                (o .offset .ensures
-                ∙ (λ j. tabulate 10 (λ h. afterOffset (f .class-field .ensures j) (getD (w .class-points .ensures j) h (pos 0))))
+                (o .offset2 .ensures
+                ∙ (λ j. tabulate 10 (λ h. afterOffset (f .offset .ensures j) (getD (w .class-points .ensures j) h (pos 0))))
                 ∙ tabulate-ext 10 _ (λ j. offsetPoint (d x) (n x) (k x) j (c x))
                 (λ j h. ap (afterOffset (offset (d x) (c x))) (getD-tabulate 10 (classPoint (d x) (n x) (k x) (c x)) j (pos 0) h))) i;
           };
@@ -112,7 +112,7 @@ class-amounts-spec =
     (λ p κs. search needs)
     class-points-requires
     (λ p κs. search needs)
-    offset-requires
+    offset-requires-2
     spread-requires
     mtm-requires
     premium-requires

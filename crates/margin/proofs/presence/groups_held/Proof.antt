@@ -8,7 +8,7 @@ use lib.ListN.{getD, set}
 use Rattle.numbers.specs.Flags.{flag, flags-none, flags-more}
 use Rattle.numbers.specs.Table.{getD-tabulate}
 use Rattle.model.specs.DayFile.{classCount, group}
-use Rattle.classes.specs.Tables.{entry, Day, accepted-day}
+use Rattle.classes.specs.Tables.{entry, Day, accepted-day, class-inside}
 use Rattle.classes.specs.Range.{Range, startOf}
 use Rattle.classes.specs.Starts.{table-range}
 use Rattle.margin.specs.Presence.{anyHeld, classHeld, groupsTo, groups-are}
@@ -43,30 +43,27 @@ module _ (x : tie.Start Inv-loop μ-loop) where
 few : (p : tie.In-loop Inv-loop μ-loop) → p .before .loop .c < 64
 few p = omega (arith, file (p .before .before .before .before) .classes)
 
-group-is : (p : tie.After-index Inv-loop μ-loop) → p .index .result ≡ (let l = p .before .before .before in group (d (l .before .before .before)) (l .loop .c))
-group-is p = p .index .ensures ∙ p .before .group-of .ensures
-
 -- the class's range, from the table
 module _ (p : tie.After-b Inv-loop μ-loop) where
   abbrev x : tie.Start Inv-loop μ-loop
-  x = p .before .before .before .before .before .before .before .before
+  x = p .before .before .before .before .before .before .before
 
-  here : Range (d x) (p .before .before .before .before .before .loop .c) (t x (p .before .before .before .before .before .loop .c)) (t x (p .before .before .before .before .before .loop .c + 1))
-  here = stretch x (p .before .before .before .before .before .loop .c) (omega arith)
+  here : Range (d x) (p .before .before .before .before .loop .c) (t x (p .before .before .before .before .loop .c)) (t x (p .before .before .before .before .loop .c + 1))
+  here = stretch x (p .before .before .before .before .loop .c) (omega arith)
 
 loop-again : tie.Need-loop-again Inv-loop μ-loop
 loop-again p =
     let b = p .before in
     let g = b .before .before in
-    let l = g .before .before .before in
+    let l = g .before .before in
     let y = l .before .before .before in
     let c = l .loop .c in
-    let q = few (g .before .before) in
+    let q = few (g .before) in
     let lo = start-is y c (omega (arith, q)) in
     let hi = start-is y (c + 1) (omega (arith, q)) in (
       search needs,
-      (λ i. set (l .loop .inv .1 i) (group-is g i)
-          (((λ j. getD (l .loop .inv .1 j) (group-is g j) false) ∙ getD-tabulate 32 (flag (group (d y)) (held y) c) (group (d y) c) false (omega arith)) i
+      (λ i. set (l .loop .inv .1 i) (g .group .ensures i)
+          (((λ j. getD (l .loop .inv .1 j) (g .group .ensures j) false) ∙ getD-tabulate 32 (flag (group (d y)) (held y) c) (group (d y) c) false (omega arith)) i
           || (p .any-held .ensures ∙ (λ j. anyHeld (entry (y .args .nets .now)) (entry (y .args .dvps .now)) (y .args .book) (lo j) (hi j - lo j))) i))
           ∙ flags-more 32 (group (d y)) (held y) c (omega arith),
     )
@@ -88,17 +85,16 @@ groups-held-spec =
     μ-loop
     (λ p κs. search needs)
     (λ p. let x = p .before .before in (search needs, flags-none 32 (group (d x)) (held x)))
-    (λ p κs. few p)
-    (λ p κs. search needs)
+    (λ p κs. class-inside (file (p .before .before .before .before)) (omega arith))
+    (λ p. record { fits = omega (arith, few (p .before)) })
+    (λ p. omega (arith, few (p .before)))
+    (λ p. record { fits = omega (arith, few (p .before .before)) })
     (λ p. record { fits = omega (arith, few (p .before .before)) })
     (λ p. omega (arith, few (p .before .before)))
-    (λ p. record { fits = omega (arith, few (p .before .before .before)) })
-    (λ p. record { fits = omega (arith, few (p .before .before .before)) })
-    (λ p. omega (arith, few (p .before .before .before)))
-    (λ p. rw (group-is (p .before .before)) (omega arith))
+    (λ p. rw (p .before .before .group .ensures) (omega arith))
     (λ p. here p .rising)
     (λ p κs. let x = x p in (x .pre .1 .0, omega (arith, here p .rising, here p .end, file x .series)))
-    (λ p. rw (group-is (p .before .before .before)) (omega arith))
+    (λ p. rw (p .before .before .before .group .ensures) (omega arith))
     (λ p. search needs)
     (λ p. search needs)
     loop-again

@@ -60,11 +60,14 @@ counted-net-requires c κs =
     let p = a .pre .1 .0 in
     let x = a .args in
     let h : s a ≤ seriesCount (d a) = omega (arith, p .2) in (
-      search needs,
-      rw (quantity-is a) (quantity-size (d a) (x .nets .now) w (k a) (x .c) (p .0) (p .1)),
-      rw (a .pre .1 .1 .1 .0 .0) (short-size (d a) (x .nets .now) w (k a) (x .c) (p .0) (p .1) (s a) h),
-      rw (a .pre .1 .1 .1 .0 .1) (long-size (d a) (x .nets .now) w (k a) (x .c) (p .0) (p .1) (s a) h),
-      rw (net-is c) (open-size a),
+      w .day,
+      (
+        p .2,
+        rw (quantity-is a) (quantity-size (d a) (x .nets .now) w (k a) (x .c) (p .0) (p .1)),
+        rw (a .pre .1 .1 .1 .0 .0) (short-size (d a) (x .nets .now) w (k a) (x .c) (p .0) (p .1) (s a) h),
+        rw (a .pre .1 .1 .1 .0 .1) (long-size (d a) (x .nets .now) w (k a) (x .c) (p .0) (p .1) (s a) h),
+        rw (net-is c) (open-size a),
+      ),
     )
 
 counted-is : (c : tie.After-counted-net)

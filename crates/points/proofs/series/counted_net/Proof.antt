@@ -16,7 +16,7 @@ returns c =
 non-spread-requires : tie.Need-non-spread-requires
 non-spread-requires c κs =
     let a = c .before .before .before in
-    (rw (toZ-ofZ (a .fits .quantity)) (a .pre .1), a .pre .2, a .pre .3, rw (toZ-ofZ (a .fits .net)) (a .pre .4))
+    (rw (toZ-ofZ (a .fits .quantity)) (a .pre .1 .1), a .pre .1 .2, a .pre .1 .3, rw (toZ-ofZ (a .fits .net)) (a .pre .1 .4))
 
 returns-2 : tie.Need-returns-2
 returns-2 c =

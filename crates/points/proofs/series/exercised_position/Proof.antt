@@ -12,7 +12,7 @@ use Rattle.points.proofs.series.exercised_position.Statement.{statement
 use Rattle.points.proofs.series.exercised_position.Tie as tie
 
 contracts-requires : tie.Need-contracts-requires
-contracts-requires c κs = let a = c .before .before .before in (a .pre .1, rw (toZ-ofZ (a .fits .net)) (a .pre .2))
+contracts-requires c κs = let a = c .before .before .before in (search needs, rw (toZ-ofZ (a .fits .net)) (a .pre .1 .2))
 
 contracts-is : (c : tie.After-contracts)
     → toZ w64 (ofZ w64 (c .contracts .result)) ≡ (let x = c .before .before .before .before .args in x .net *ℤ pos (multiplier (x .day .now) (x .s)))
@@ -23,13 +23,13 @@ contracts-is c =
 turned-requires : tie.Need-turned-requires
 turned-requires c κs =
     let a = c .before .before .before .before in
-    rw (contracts-is c) (omega (arith, natAbs-* (a .args .net) (pos (multiplier (a .args .day .now) (a .args .s))), a .pre .2))
+    rw (contracts-is c) (omega (arith, natAbs-* (a .args .net) (pos (multiplier (a .args .day .now) (a .args .s))), a .pre .1 .2))
 
 returns : tie.Need-returns
 returns c =
     let b = c .before in (
       told (b .turned .ok) (b .turned .ensures ∙ (λ i. turned (b .before .before .series-type .ensures i) (contracts-is (b .before) i))),
-      c .class-field .ensures,
+      c .underlying .ensures,
       b .before .before .before .projected-prices .ensures,
     )
 

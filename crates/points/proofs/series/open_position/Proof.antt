@@ -8,14 +8,14 @@ use Rattle.points.proofs.series.open_position.Statement.{statement}
 use Rattle.points.proofs.series.open_position.Tie as tie
 
 contracts-requires : tie.Need-contracts-requires
-contracts-requires c κs = let a = c .before .before in (a .pre .0, rw (toZ-ofZ (a .fits .net)) (a .pre .1))
+contracts-requires c κs = let a = c .before .before in (search needs, rw (toZ-ofZ (a .fits .net)) (a .pre .1 .1))
 
 returns : tie.Need-returns
 returns c =
     let b = c .before in
     let a = b .before .before .before in (
       told (b .contracts .ok) (b .contracts .ensures ∙ ap (λ z. z *ℤ pos (multiplier (a .args .day .now) (a .args .s))) (toZ-ofZ (a .fits .net))),
-      c .series-field .ensures,
+      c .closing .ensures,
       b .before .theoretical-prices .ensures,
     )
 

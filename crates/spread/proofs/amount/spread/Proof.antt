@@ -32,8 +32,8 @@ spread-amount-requires c κs =
     let p = class-price (x .day .now) (a .pre .0 .day .rows) (x .c) (a .pre .1 .1 .0 .class) in (
       rw (spot-is (c .before .before)) (spot-size (x .day .now) (x .nets .now) (a .pre .0) (x .book) (x .c) (omega arith) (a .pre .1 .1 .0 .class)),
       rw (quantity-is a) (quantity-size (x .day .now) (x .nets .now) (a .pre .0) (x .book) (x .c) (omega arith) (a .pre .1 .1 .0 .class)),
-      rw (c .before .class-field .ensures) (p 2 (omega arith) (λ z. omega arith) (λ z. omega arith)),
-      rw (c .class-field2 .ensures) (p 3 (omega arith) (λ z. omega arith) (λ z. omega arith)),
+      rw (c .before .spot-rate .ensures) (p 2 (omega arith) (λ z. omega arith) (λ z. omega arith)),
+      rw (c .non-spot-rate .ensures) (p 3 (omega arith) (λ z. omega arith) (λ z. omega arith)),
     )
 
 returns : tie.Need-returns
@@ -43,7 +43,7 @@ returns c =
     let x = a .args in
     told (c .spread-amount .ok)
     (c .spread-amount .ensures
-    ∙ (λ i. spreadAmount (spot-is (b .before .before) i) (quantity-is a i) (b .before .class-field .ensures i) (b .class-field2 .ensures i))
+    ∙ (λ i. spreadAmount (spot-is (b .before .before) i) (quantity-is a i) (b .before .spot-rate .ensures i) (b .non-spot-rate .ensures i))
     ∙ spread-parts (x .day .now) (entry (x .nets .now)) (x .book) (x .c))
 
 pub spread-spec : {M : Type 1} → statement M

@@ -45,15 +45,17 @@ net-is : (c : tie.After-position-amount) → toZ w64 (ofZ w64 (c .position-amoun
 net-is c = told (c .position-amount .ok) (c .position-amount .ensures)
 
 price-is : (c : tie.After-signed) → toZ w64 (ofZ w64 (c .signed .result)) ≡ (let x = c .before .before .before .before .before .before .before in pos (closing (d x) (s x)))
-price-is c = told (c .signed .ok) (c .signed .ensures ∙ ap pos (c .before .series-field .ensures))
+price-is c = told (c .signed .ok) (c .signed .ensures ∙ ap pos (c .before .closing .ensures))
 
 worth-requires : tie.Need-worth-requires
 worth-requires c κs =
     let x = c .before .before .before .before .before .before .before in
     let p = x .pre .1 .1 in (
       search needs,
-      rw (net-is (c .before .before)) (contracts-size (d x) (x .args .nets .now) (x .pre .0) (k x) 0 (s x) (p .0) (omega arith) (p .1)),
-      rw (price-is c) (closing-limit (d x) (x .pre .0 .day .rows) (s x) (p .1)),
+      (
+        rw (net-is (c .before .before)) (contracts-size (d x) (x .args .nets .now) (x .pre .0) (k x) 0 (s x) (p .0) (omega arith) (p .1)),
+        rw (price-is c) (closing-limit (d x) (x .pre .0 .day .rows) (s x) (p .1)),
+      ),
     )
 
 value-is : (c : tie.After-position-amount2)

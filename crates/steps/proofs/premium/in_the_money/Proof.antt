@@ -25,8 +25,8 @@ money-is : (c : tie.After-series-type)
 money-is c =
     let u = c .before .before .before in
     let t = c .before in
-    λ i. told (u .signed .ok) (u .signed .ensures ∙ ap pos (u .before .class-field .ensures)) i
-    -ℤ told (t .signed2 .ok) (t .signed2 .ensures ∙ ap pos (t .before .series-field .ensures)) i
+    λ i. told (u .signed .ok) (u .signed .ensures ∙ ap pos (u .before .underlying .ensures)) i
+    -ℤ told (t .signed2 .ok) (t .signed2 .ensures ∙ ap pos (t .before .strike .ensures)) i
 
 sub-is : (c : tie.After-sub) → toZ w64 (ofZ w64 (c .sub .result)) ≡ money (c .before .before .before .before .before .before .before)
 sub-is c = told (c .sub .ok) (c .sub .ensures ∙ money-is (c .before))

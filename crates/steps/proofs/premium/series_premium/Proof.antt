@@ -45,7 +45,7 @@ net-is : (p : tie.After-position-amount) → toZ w64 (ofZ w64 (p .position-amoun
 net-is p = told (p .position-amount .ok) (p .position-amount .ensures)
 
 price-is : (p : tie.After-signed) → toZ w64 (ofZ w64 (p .signed .result)) ≡ (let x = p .before .before .before .before .before .before .before in pos (closing (d x) (s x)))
-price-is p = told (p .signed .ok) (p .signed .ensures ∙ ap pos (p .before .series-field .ensures))
+price-is p = told (p .signed .ok) (p .signed .ensures ∙ ap pos (p .before .closing .ensures))
 
 taken-is : (p : tie.After-position-amount2)
     → toZ w64 (ofZ w64 (p .position-amount2 .result)) ≡ (let x = p .before .before .before .before .before .before .before .before .before in exercisedNet (n x) (k x) (s x))
@@ -60,8 +60,10 @@ worth-requires p κs =
     let x = p .before .before .before .before .before .before .before in
     let h = x .pre .1 in (
       search needs,
-      rw (net-is (p .before .before)) (contracts-size (d x) (x .args .nets .now) (x .pre .0) (k x) 0 (s x) (h .0) (omega arith) (h .2)),
-      rw (price-is p) (closing-limit (d x) (x .pre .0 .day .rows) (s x) (h .2)),
+      (
+        rw (net-is (p .before .before)) (contracts-size (d x) (x .args .nets .now) (x .pre .0) (k x) 0 (s x) (h .0) (omega arith) (h .2)),
+        rw (price-is p) (closing-limit (d x) (x .pre .0 .day .rows) (s x) (h .2)),
+      ),
     )
 
 worth-requires-2 : tie.Need-worth-requires-2
@@ -69,8 +71,10 @@ worth-requires-2 p κs =
     let x = p .before .before .before .before .before .before .before .before .before .before in
     let h = x .pre .1 in (
       search needs,
-      rw (taken-is (p .before)) (contracts-size (d x) (x .args .nets .now) (x .pre .0) (k x) 1 (s x) (h .0) (omega arith) (h .2)),
-      rw (money-is p) (money-size (d x) (x .pre .0 .day .rows) (c x) (s x) (h .1) (h .2) .1),
+      (
+        rw (taken-is (p .before)) (contracts-size (d x) (x .args .nets .now) (x .pre .0) (k x) 1 (s x) (h .0) (omega arith) (h .2)),
+        rw (money-is p) (money-size (d x) (x .pre .0 .day .rows) (c x) (s x) (h .1) (h .2) .1),
+      ),
     )
 
 value-is : (p : tie.After-worth2)

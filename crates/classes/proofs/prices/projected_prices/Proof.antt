@@ -6,8 +6,8 @@ use Rattle.numbers.specs.Table.{tabulate-ext}
 use Rattle.model.specs.Words.{payload}
 use Rattle.model.specs.DayFile.{projected}
 use borrow.Author.Needs.{needs}
-use Rattle.classes.proofs.fields.projected_prices.Statement.{statement}
-use Rattle.classes.proofs.fields.projected_prices.Tie as tie
+use Rattle.classes.proofs.prices.projected_prices.Statement.{statement}
+use Rattle.classes.proofs.prices.projected_prices.Tie as tie
 
 returns : tie.Need-returns
 returns c =

@@ -1,14 +1,14 @@
 use borrow.Author.Needs.{needs}
 use native.Mathlib.Omega.{arith}
-use mathlib.Core.Path.{_≡_, ap, _∙_}
+use mathlib.Core.Path.{_≡_, _∙_}
 use mathlib.Core.List.{List}
 use Prim.Native.Nat.{ℕ, _≤_, _+_, _-_}
 use lib.ListN.{getD, set}
 use Rattle.numbers.specs.Table.{replicate-tabulate}
 use Rattle.numbers.specs.Filling.{filled, filled-none, filled-more, filled-all}
 use Rattle.model.specs.Words.{payload}
-use Rattle.classes.proofs.fields.ten.Statement.{statement}
-use Rattle.classes.proofs.fields.ten.Tie as tie
+use Rattle.classes.proofs.prices.ten.Statement.{statement}
+use Rattle.classes.proofs.prices.ten.Tie as tie
 
 abbrev row : List ℕ → ℕ → ℕ → ℕ
 row d i k = payload (getD d (i + k) 0)
@@ -29,7 +29,7 @@ loop-again c =
     let l = c .before .before .before in
     let a = l .before .before .args in (
       search needs,
-      (λ i. set (l .loop .inv .1 i) (l .loop .k) ((c .payload .ensures ∙ ap payload (c .before .word-at .ensures)) i))
+      (λ i. set (l .loop .inv .1 i) (l .loop .k) (c .payload .ensures i))
           ∙ filled-more 10 (row (a .day .now) (a .i)) (λ j. 0) (l .loop .k) (omega arith),
     )
 
@@ -46,7 +46,8 @@ ten-spec =
     μ-loop
     loop-holds
     (λ c. search needs)
-    (λ c κs. search needs)
+    (λ c. search needs)
+    (λ c. search needs)
     (λ c κs. search needs)
     (λ c. search needs)
     (λ c. search needs)

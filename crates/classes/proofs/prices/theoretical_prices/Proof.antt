@@ -6,8 +6,8 @@ use Rattle.numbers.specs.Table.{tabulate-ext}
 use Rattle.model.specs.Words.{payload}
 use Rattle.model.specs.DayFile.{classCount, theoretical}
 use borrow.Author.Needs.{needs}
-use Rattle.classes.proofs.fields.theoretical_prices.Statement.{statement}
-use Rattle.classes.proofs.fields.theoretical_prices.Tie as tie
+use Rattle.classes.proofs.prices.theoretical_prices.Statement.{statement}
+use Rattle.classes.proofs.prices.theoretical_prices.Tie as tie
 
 returns : tie.Need-returns
 returns c =

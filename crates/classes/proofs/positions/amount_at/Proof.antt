@@ -2,8 +2,8 @@ use borrow.Author.Needs.{needs}
 use mathlib.Core.Path.{sym}
 use lib.IntN.{pos}
 use lib.ListN.{List·getD-eq-default}
-use Rattle.classes.proofs.fields.amount_at.Statement.{statement}
-use Rattle.classes.proofs.fields.amount_at.Tie as tie
+use Rattle.classes.proofs.positions.amount_at.Statement.{statement}
+use Rattle.classes.proofs.positions.amount_at.Tie as tie
 
 returns-2 : tie.Need-returns-2
 returns-2 c = sym (List·getD-eq-default (c .before .args .table .now) (pos 0) (search needs))
