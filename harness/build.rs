@@ -1,10 +1,12 @@
-//! Links the unit's static library where the feature `unit` asks for it.
+//! Links the static libraries that the features `unit` and `bench` ask for.
 fn main() {
     println!("cargo:rerun-if-changed=build.rs");
-    if std::env::var_os("CARGO_FEATURE_UNIT").is_some() {
-        let folder = std::path::Path::new(env!("CARGO_MANIFEST_DIR")).join("../target/staticlib");
-        println!("cargo:rerun-if-changed={}", folder.join("libmars.a").display());
-        println!("cargo:rustc-link-search=native={}", folder.display());
-        println!("cargo:rustc-link-lib=static=mars");
+    let folder = std::path::Path::new(env!("CARGO_MANIFEST_DIR")).join("../target/staticlib");
+    for (feature, library) in [("CARGO_FEATURE_UNIT", "mars"), ("CARGO_FEATURE_BENCH", "netting_times")] {
+        if std::env::var_os(feature).is_some() {
+            println!("cargo:rerun-if-changed={}", folder.join(format!("lib{library}.a")).display());
+            println!("cargo:rustc-link-search=native={}", folder.display());
+            println!("cargo:rustc-link-lib=static={library}");
+        }
     }
 }

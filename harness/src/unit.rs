@@ -1,4 +1,4 @@
-//! The unit's byte call, linked from its static library.
+//! The unit's byte call, linked from its static library; for the benchmark its netting alone.
 use crate::reckoner::Refusal;
 
 extern "C" {
@@ -16,4 +16,30 @@ pub fn call(day: &[u8], batch: &[u8], memory: &mut [u8]) -> Result<usize, Refusa
     } else {
         Err(Refusal { number, place: value })
     }
+}
+
+#[cfg(feature = "bench")]
+extern "C" {
+    fn mars_net_times(
+        day: *const u32,
+        day_len: usize,
+        batch: *const u32,
+        batch_len: usize,
+        nets: *mut i64,
+        nets_len: usize,
+        dvps: *mut i64,
+        dvps_len: usize,
+        times: u32,
+    ) -> u32;
+}
+
+/// The batch netted into both tables once and `times` times more, each time from zeros; false: refused, and no table changed.
+#[cfg(feature = "bench")]
+pub fn net_times(day: &[u32], batch: &[u32], nets: &mut [i64], dvps: &mut [i64], times: u32) -> bool {
+    // No precondition: any two files of words and any two tables may be lent.
+    let (n, m) = (nets.len(), dvps.len());
+    let r = unsafe {
+        mars_net_times(day.as_ptr(), day.len(), batch.as_ptr(), batch.len(), nets.as_mut_ptr(), n, dvps.as_mut_ptr(), m, times)
+    };
+    r == 1
 }

@@ -1,4 +1,5 @@
-//! The byte call against the same work in plain Rust: medians in one run, on the largest and on a typical account.
+//! The byte call against the same work in plain Rust: medians in one run, on the largest and on a typical account; then netting
+//! alone. From the top folder: `rt staticlib mars`, `rt staticlib netting_times`; here `cargo run --release --features bench --bin bench`.
 use harness::accounts::{accepted, Account, Size, LARGEST, TYPICAL};
 use harness::plain;
 use harness::reckoner::{reckon, to_bytes};
@@ -10,6 +11,8 @@ use std::time::{Duration, Instant};
 const WARM_UP: Duration = Duration::from_millis(300);
 const SAMPLES: usize = 1001;
 const SAMPLE: Duration = Duration::from_micros(400);
+/// Nettings after the first in a call of the unit's repeated netting.
+const TIMES: u32 = 200;
 
 /// Time of `calls` calls, in nanoseconds a call.
 fn time(calls: u32, mut call: impl FnMut()) -> f64 {
@@ -37,6 +40,17 @@ fn median(times: &mut [f64]) -> f64 {
     times[times.len() / 2]
 }
 
+/// Medians of the two, their samples taken in turns.
+fn medians(mut ours: impl FnMut(), mut theirs: impl FnMut()) -> (f64, f64) {
+    let (our_calls, their_calls) = (calls(&mut ours), calls(&mut theirs));
+    let (mut our_times, mut their_times) = (Vec::new(), Vec::new());
+    for _ in 0..SAMPLES {
+        our_times.push(time(our_calls, &mut ours));
+        their_times.push(time(their_calls, &mut theirs));
+    }
+    (median(&mut our_times), median(&mut their_times))
+}
+
 /// The account with the most lines among some accepted ones of this size.
 fn account(size: Size) -> Account {
     let mut rng = Rng::new(2021);
@@ -50,19 +64,13 @@ fn run(name: &str, size: Size) {
     let words = unit::call(&day, &batch, &mut ours).expect("accepted");
     assert_eq!(plain::call(&day, &batch, &mut theirs), words as u64);
     assert!(ours == theirs, "the two memories differ");
-    let mut unit_call = || {
+    let unit_call = || {
         black_box(unit::call(black_box(&day), black_box(&batch), black_box(&mut ours))).ok();
     };
-    let mut plain_call = || {
+    let plain_call = || {
         black_box(plain::call(black_box(&day), black_box(&batch), black_box(&mut theirs)));
     };
-    let (unit_calls, plain_calls) = (calls(&mut unit_call), calls(&mut plain_call));
-    let (mut unit_times, mut plain_times) = (Vec::new(), Vec::new());
-    for _ in 0..SAMPLES {
-        unit_times.push(time(unit_calls, &mut unit_call));
-        plain_times.push(time(plain_calls, &mut plain_call));
-    }
-    let (u, p) = (median(&mut unit_times), median(&mut plain_times));
+    let (u, p) = medians(unit_call, plain_call);
     println!(
         "{name}: {} classes, {} series, {} records, {} lines: unit {u:.0} ns, plain Rust {p:.0} ns, ratio {:.2}",
         size.classes,
@@ -73,8 +81,43 @@ fn run(name: &str, size: Size) {
     );
 }
 
+type Tables = ([i64; 1024], [i64; 1024]);
+
+/// Step 1 alone on the largest account's batch, `TIMES` + 1 nettings a call.
+fn run_netting() {
+    let a = account(LARGEST);
+    let mut ours: Tables = ([7; 1024], [7; 1024]);
+    let mut theirs = ours;
+    let unit_call = |tables: &mut Tables| {
+        let (nets, dvps) = black_box(tables);
+        assert!(unit::net_times(black_box(&a.day), black_box(&a.batch), nets, dvps, TIMES), "accepted");
+    };
+    let plain_call = |tables: &mut Tables| {
+        for _ in 0..=TIMES {
+            let (nets, dvps) = black_box(&mut *tables);
+            nets.fill(0);
+            dvps.fill(0);
+            plain::net(black_box(&a.batch), nets, dvps);
+        }
+    };
+    unit_call(&mut ours);
+    plain_call(&mut theirs);
+    assert!(ours == theirs, "the tables differ");
+    let (u, p) = medians(|| unit_call(&mut ours), || plain_call(&mut theirs));
+    let each = f64::from(TIMES + 1);
+    println!(
+        "netting alone: {} records, both tables cleared before each of {each} nettings a call: \
+         unit {:.0} ns, plain Rust {:.0} ns a netting, ratio {:.2}",
+        (a.batch.len() - 1) / 6,
+        u / each,
+        p / each,
+        u / p
+    );
+}
+
 fn main() {
     println!("medians of {SAMPLES} samples each, taken in turns; the report memory is not cleared between calls");
     run("largest", LARGEST);
     run("typical", TYPICAL);
+    run_netting();
 }
