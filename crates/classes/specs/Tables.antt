@@ -28,12 +28,9 @@ pub record Given (d : List ℕ) (nets : List ℤ) : Type 0 where
   pub dvp : ℕ → ℤ
   pub budget : Budget d (entry nets) dvp
 
--- the records of its classes and series are inside
+-- the record of a class is inside
 pub class-inside : {d : List ℕ} → Day d → {c : ℕ} → c < classCount d → 21 + 20 * c ≤ length d
 class-inside w h = omega (arith, w .whole)
-
-pub series-inside : {d : List ℕ} → Day d → {s : ℕ} → s < seriesCount d → 15 + 20 * classCount d + 14 * s ≤ length d
-series-inside w h = omega (arith, w .whole)
 
 -- what accepted files give
 pub accepted-day : (d : List ℕ) → DayRows d → Day d
