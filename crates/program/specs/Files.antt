@@ -118,7 +118,7 @@ pub long : (m l : List ℕ) → length m ≡ length l → l ≡ replicate 4460 0
 long m l e f = e ∙ ap length f ∙ length-replicate {A = ℕ} 4460 0
 
 -- text at the front of a buffer is no longer than the buffer
-pub text-fits : (t l m : List ℕ) (n : ℕ) → n ≡ 0 + length t → m ≡ put 0 t l → Counts n m
+pub text-fits : (t l m : List ℕ) (n : ℕ) → n ≡ length t → m ≡ put 0 t l → Counts n m
 text-fits t l m n e p =
     let q : length m ≡ length t + length (drop (length t) l) = ap length (p ∙ put-front t l) ∙ length-append t (drop (length t) l) in
     let f : n ≤ length m = omega (arith, e, q) in

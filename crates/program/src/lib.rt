@@ -43,7 +43,7 @@ fn print_through(
     requires { ⌜ now memory ≡ replicate 4460 0 ⌝ }
     requires { ⌜ length (now words) ≡ 1115 ⌝ }
     requires { ⌜ 9090 ≤ length (now out) ⌝ }
-    ensures { λ r. ⌜ (r ≡ 0 + length (programText first (now (day .entry)) second (now (batch .entry)))) × (now (out .exit) ≡ put 0 (programText first (now (day .entry)) second (now (batch .entry))) (now (out .entry))) ⌝ }
+    ensures { λ r. ⌜ (r ≡ length (programText first (now (day .entry)) second (now (batch .entry)))) × (now (out .exit) ≡ put 0 (programText first (now (day .entry)) second (now (batch .entry))) (now (out .entry))) ⌝ }
     ensures { λ r. ⌜ Counts r (now (out .exit)) ⌝ }
     ensures { λ _. ⌜ now (memory .exit) ≡ writtenBytes (filesAnswer first (now (day .entry)) second (now (batch .entry))) (reportOf (wordsOf (now (day .entry))) (wordsOf (now (batch .entry)))) (replicate 4460 0) ⌝ }
     ensures { λ _. ⌜ now (words .exit) ≡ put 0 (wordsOf (now (memory .exit))) (now (words .entry)) ⌝ }
@@ -56,7 +56,7 @@ fn print_through(
 // The text at the front of the buffer; its length.
 pub fn print_files(first: bool, day: &[u8], second: bool, batch: &[u8], out: &mut [u8]) -> usize
     requires { ⌜ 9090 ≤ length (now out) ⌝ }
-    ensures { λ r. ⌜ (r ≡ 0 + length (programText first (now (day .entry)) second (now (batch .entry)))) × (now (out .exit) ≡ put 0 (programText first (now (day .entry)) second (now (batch .entry))) (now (out .entry))) ⌝ }
+    ensures { λ r. ⌜ (r ≡ length (programText first (now (day .entry)) second (now (batch .entry)))) × (now (out .exit) ≡ put 0 (programText first (now (day .entry)) second (now (batch .entry))) (now (out .entry))) ⌝ }
     ensures { λ r. ⌜ Counts r (now (out .exit)) ⌝ }
 {
     let mut memory = [0u8; 4460];
@@ -67,7 +67,7 @@ pub fn print_files(first: bool, day: &[u8], second: bool, batch: &[u8], out: &mu
 // The same of two files of words and a memory of any length.
 pub fn print_words(day: &[u32], batch: &[u32], memory: &mut [u32], out: &mut [u8]) -> usize
     requires { ⌜ 9090 ≤ length (now out) ⌝ }
-    ensures { λ r. ⌜ (r ≡ 0 + length (callText (now (day .entry)) (now (batch .entry)) (now (memory .entry)))) × (now (out .exit) ≡ put 0 (callText (now (day .entry)) (now (batch .entry)) (now (memory .entry))) (now (out .entry))) ⌝ }
+    ensures { λ r. ⌜ (r ≡ length (callText (now (day .entry)) (now (batch .entry)) (now (memory .entry)))) × (now (out .exit) ≡ put 0 (callText (now (day .entry)) (now (batch .entry)) (now (memory .entry))) (now (out .entry))) ⌝ }
     ensures { λ r. ⌜ Counts r (now (out .exit)) ⌝ }
     ensures { λ _. ⌜ now (memory .exit) ≡ memoryAfter (now (day .entry)) (now (batch .entry)) (now (memory .entry)) ⌝ }
 {

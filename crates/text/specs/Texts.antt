@@ -9,10 +9,15 @@ use lib.Dec.{eqb}
 use lib.IntN.{pos, negℤ, natAbs}
 use lib.ListN.{length, getD, length-append}
 use Rattle.numbers.specs.Abs.{cond-ind, natAbs-neg}
+use Rattle.numbers.specs.Put.{put}
 use Rattle.model.specs.Words.{payload, bits, amount, magnitude, negative}
 use Rattle.model.specs.Reading.{amountIn}
 use Rattle.model.specs.Printed.{signedDecimal, numberField, amountFields, marginHead, ordinaryHead, failHead, totalHead, lineText, linesText, countText, totalsText}
 use Rattle.text.specs.Digits.{decimal-length, signed-length}
+
+-- text from place 0 on ends at its length
+pub from-front : (w l : List ℕ) {n : ℕ} {m : List ℕ} → (n ≡ 0 + length w) × (m ≡ put 0 w l) → (n ≡ length w) × (m ≡ put 0 w l)
+from-front w l p = (omega (arith, p .0), p .1)
 
 -- the head of a line whose key has this payload
 abbrev pub headOf : ℕ → List ℕ

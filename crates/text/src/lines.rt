@@ -78,7 +78,7 @@ pub fn write_totals(out: &mut [u8], at: usize, report: &[u32], i: usize) -> usiz
 pub fn write_report(out: &mut [u8], report: &[u32]) -> usize
     requires { ⌜ 9090 ≤ length (now out) ⌝ }
     requires { ⌜ countIn (now report) ≤ 58 ⌝ }
-    ensures { λ r. ⌜ (r ≡ 0 + length (reportText (now (report .entry)))) × (now (out .exit) ≡ put 0 (reportText (now (report .entry))) (now (out .entry))) ⌝ }
+    ensures { λ r. ⌜ (r ≡ length (reportText (now (report .entry)))) × (now (out .exit) ≡ put 0 (reportText (now (report .entry))) (now (out .entry))) ⌝ }
 {
     let count = payload(word_at(report, 0));
     let n = index(count);
@@ -90,7 +90,7 @@ pub fn write_report(out: &mut [u8], report: &[u32]) -> usize
 // The text of a refusal.
 pub fn write_refusal(out: &mut [u8], number: u64, place: u64) -> usize
     requires { ⌜ 9090 ≤ length (now out) ⌝ }
-    ensures { λ r. ⌜ (r ≡ 0 + length (refusalText number place)) × (now (out .exit) ≡ put 0 (refusalText number place) (now (out .entry))) ⌝ }
+    ensures { λ r. ⌜ (r ≡ length (refusalText number place)) × (now (out .exit) ≡ put 0 (refusalText number place) (now (out .entry))) ⌝ }
 {
     let a = write_head(out, 0, b"REFUSED");
     let b = write_number(out, a, number);
@@ -102,7 +102,7 @@ pub fn write_refusal(out: &mut [u8], number: u64, place: u64) -> usize
 pub fn write_answer(answer: Answer, report: &[u32], out: &mut [u8]) -> usize
     requires { ⌜ 9090 ≤ length (now out) ⌝ }
     requires { ⌜ Room answer (now report) ⌝ }
-    ensures { λ r. ⌜ (r ≡ 0 + length (printed answer (now (report .entry)))) × (now (out .exit) ≡ put 0 (printed answer (now (report .entry))) (now (out .entry))) ⌝ }
+    ensures { λ r. ⌜ (r ≡ length (printed answer (now (report .entry)))) × (now (out .exit) ≡ put 0 (printed answer (now (report .entry))) (now (out .entry))) ⌝ }
 {
     match answer {
         Answer::Report(_) => write_report(out, report),

@@ -59,7 +59,7 @@ returns c =
     let w = c .before .before .write-answer in
     let t = decoded (s .args .first) (now (s .args .day)) (s .args .second) (now (s .args .batch)) (a .result) (a .last .1 .1 .1 .1 .0) (a .ensures .0) (a .ensures .1)
     (long (a .last .1 .1 .1 .1 .0) (now (s .args .memory)) (a .kept .1 .1 .1 .1 .0) (s .pre .0)) (now (s .args .words)) (d .last .1 .0) (s .pre .1 .0) (d .ensures) in
-    let n = w .ensures .0 ∙ ap (λ (x : List ℕ). 0 + length x) (t .0) in
+    let n = w .ensures .0 ∙ ap length (t .0) in
     let o = w .ensures .1 ∙ ap (λ (x : List ℕ). put 0 x (now (s .args .out))) (t .0) in
     let m = rw (a .ensures .0) at (a .ensures .1) in
     let f = text-fits (programText (s .args .first) (now (s .args .day)) (s .args .second) (now (s .args .batch))) (now (s .args .out)) (w .last .1 .1 .0) (w .result) n o in

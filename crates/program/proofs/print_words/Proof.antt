@@ -33,7 +33,7 @@ returns c =
     let b = now (s .args .batch) in
     let m = now (s .args .memory) in
     let t = words-shown d b m (r .result) (r .last .1 .1 .0) (r .ensures .0) (r .ensures .1) in
-    let n = w .ensures .0 ∙ ap (λ (x : List ℕ). 0 + length x) t in
+    let n = w .ensures .0 ∙ ap length t in
     let o = w .ensures .1 ∙ ap (λ (x : List ℕ). put 0 x (now (s .args .out))) t in
     ((n, o), (text-fits (callText d b m) (now (s .args .out)) (w .last .1 .1 .0) (w .result) n o, r .ensures .1))
 

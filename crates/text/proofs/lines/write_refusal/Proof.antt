@@ -7,6 +7,7 @@ use denote.Ref.{now}
 use Rattle.numbers.specs.Put.{put-then}
 use Rattle.model.specs.Printed.{numberField, refusedHead, refusalText}
 use Rattle.text.specs.Digits.{decimal-length}
+use Rattle.text.specs.Texts.{from-front}
 use Rattle.text.proofs.lines.write_refusal.Statement.{statement}
 use Rattle.text.proofs.lines.write_refusal.Tie as tie
 
@@ -49,7 +50,8 @@ returns c =
     let h₄ = length-append (refusedHead ++ n) p in
     let a = put-then 0 refusedHead n o (c .before .before .before .before .before .before .before .before .before .before .before .before .before .before .write-head .ensures) (c .before .before .before .before .before .before .before .before .before .before .write-number .ensures) (omega (arith, c .before .before .before .before .before .before .before .before .before .before .before .before .before .before .write-head .ensures .0, s .pre)) in
     let b = put-then 0 (refusedHead ++ n) p o a (c .before .before .before .before .before .before .write-number2 .ensures) (omega (arith, a .0, s .pre)) in
-    put-then 0 (refusedHead ++ n ++ p) (10 ∷ []) o b (c .before .before .write-byte .ensures) (omega (arith, b .0, s .pre))
+    from-front (refusedHead ++ n ++ p ++ (10 ∷ [])) o
+    (put-then 0 (refusedHead ++ n ++ p) (10 ∷ []) o b (c .before .before .write-byte .ensures) (omega (arith, b .0, s .pre)))
 
 pub write-refusal-spec : {M : Type 1} → statement M
 write-refusal-spec =

@@ -9,7 +9,7 @@ use Rattle.numbers.specs.Put.{put-then}
 use Rattle.model.specs.Reading.{countIn}
 use Rattle.model.specs.Words.{payload}
 use Rattle.model.specs.Printed.{linesText, countText, totalsText, reportText}
-use Rattle.text.specs.Texts.{lines-length, count-length, totals-length}
+use Rattle.text.specs.Texts.{from-front, lines-length, count-length, totals-length}
 use Rattle.text.proofs.lines.write_report.Statement.{statement}
 use Rattle.text.proofs.lines.write_report.Tie as tie
 
@@ -74,7 +74,7 @@ returns c =
     let h₅ = length-append (countText k) (linesText w n) in
     let b = put-then 0 (countText k) (linesText w n) o (c .before .before .before .before .before .before .before .before .before .before .write-count .ensures) (c .before .before .before .before .before .before .write-lines .ensures) (omega (arith, c .before .before .before .before .before .before .before .before .before .before .write-count .ensures .0, s .pre .0)) in
     let t = put-then 0 (countText k ++ linesText w n) (totalsText w (4 + 19 * n)) o b (c .before .before .write-totals .ensures) (omega (arith, b .0, s .pre .0)) in
-    rw (← counted (c .before .before .before .before .before .before .before)) (rw e at t)
+    rw (← counted (c .before .before .before .before .before .before .before)) (rw e at (from-front (countText k ++ linesText w n ++ totalsText w (4 + 19 * n)) o t))
 
 pub write-report-spec : {M : Type 1} → statement M
 write-report-spec =
