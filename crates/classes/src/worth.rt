@@ -5,11 +5,12 @@ ghost use lib.IntN.{pos, natAbs, _*ℤ_};
 ghost use lib.ListN.{length};
 ghost use Rattle.model.specs.DayFile.{classCount, multiplier};
 ghost use Rattle.model.specs.Steps.Classes.{worth as worthOf, turned as turnedOf};
+ghost use Rattle.classes.specs.Limits.{contractsLimit, priceLimit};
 
 // Net × multiplier.
 pub fn contracts(day: &[u32], s: usize, net: i64) -> i64
     requires { ⌜ 15 + 20 * classCount (now day) + 14 * s ≤ length (now day) ⌝ }
-    requires { ⌜ natAbs net * multiplier (now day) s ≤ 2560000000 ⌝ }
+    requires { ⌜ natAbs net * multiplier (now day) s ≤ contractsLimit ⌝ }
     ensures { λ r. ⌜ r ≡ net *ℤ pos (multiplier (now (day .entry)) s) ⌝ }
 {
     amounts::mul(net, amounts::signed(day_file::multiplier(day, s)))
@@ -17,7 +18,7 @@ pub fn contracts(day: &[u32], s: usize, net: i64) -> i64
 
 pub fn worth(day: &[u32], s: usize, net: i64, price: i64) -> i64
     requires { ⌜ 15 + 20 * classCount (now day) + 14 * s ≤ length (now day) ⌝ }
-    requires { ⌜ (natAbs net * multiplier (now day) s ≤ 2560000000) × (natAbs price ≤ 500000000) ⌝ }
+    requires { ⌜ (natAbs net * multiplier (now day) s ≤ contractsLimit) × (natAbs price ≤ priceLimit) ⌝ }
     ensures { λ r. ⌜ r ≡ worthOf (now (day .entry)) s net price ⌝ }
 {
     amounts::mul(contracts(day, s, net), price)

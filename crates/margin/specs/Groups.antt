@@ -16,6 +16,7 @@ use Rattle.model.specs.Steps.Premium.{premium}
 use Rattle.model.specs.Steps.Minimum.{minimum}
 use Rattle.model.specs.Steps.Points.{classPoint}
 use Rattle.model.specs.Steps.Additional.{afterOffset}
+use Rattle.classes.specs.Limits.{worthLimit, spreadLimit, mtmLimit}
 use Rattle.model.proofs.Accepted.{DayRows}
 use Rattle.model.proofs.Records.{Budget}
 use Rattle.model.proofs.Bounds.{class-spread, class-mtm, class-premium, class-minimum, class-offset, spread-over, mtm-over, premium-over, minimum-over, point-over}
@@ -99,11 +100,11 @@ amountsBelow d n v k g m =
 
 -- so small that two of them add up within an i64
 pub record Small (a : Amounts) : Type 0 where
-  pub spreadSmall : natAbs (a .spread) ≤ 1920000000000000000
-  pub mtmSmall : natAbs (a .mtm) ≤ 2560000000000000000
-  pub premiumSmall : natAbs (a .premium) ≤ 1280000000000000000
-  pub minimumSmall : natAbs (a .minimum) ≤ 1280000000000000000
-  pub pointsSmall : (j : ℕ) → j < 10 → natAbs (getD (a .points .at) j (pos 0)) ≤ 1280000000000000000
+  pub spreadSmall : natAbs (a .spread) ≤ spreadLimit
+  pub mtmSmall : natAbs (a .mtm) ≤ mtmLimit
+  pub premiumSmall : natAbs (a .premium) ≤ worthLimit
+  pub minimumSmall : natAbs (a .minimum) ≤ worthLimit
+  pub pointsSmall : (j : ℕ) → j < 10 → natAbs (getD (a .points .at) j (pos 0)) ≤ worthLimit
 
 module _ (d : List ℕ) (n v : ℕ → ℤ) (k g : ℕ) where
   pub none-below : noAmounts ≡ amountsBelow d n v k g 0

@@ -6,11 +6,12 @@ ghost use lib.ListN.{getD};
 ghost use Rattle.numbers.specs.Extremes.{largest as largestOf};
 ghost use Rattle.numbers.specs.Table.{tabulate};
 ghost use Rattle.model.specs.Steps.Additional.{afterOffset};
+ghost use Rattle.classes.specs.Limits.{worthLimit};
 use points::accumulator::Points;
 
 // A credit times the offset in percent, rounded toward zero; a debit whole. The product alone could wrap, so the quotient and the remainder by 100 go apart.
 fn after_offset(percent: u32, amount: i64) -> i64
-    requires { ⌜ (percent ≤ 100) × (natAbs amount ≤ 1280000000000000000) ⌝ }
+    requires { ⌜ (percent ≤ 100) × (natAbs amount ≤ worthLimit) ⌝ }
     ensures { λ r. ⌜ r ≡ afterOffset percent amount ⌝ }
 {
     if amount >= 0 {
@@ -23,7 +24,7 @@ fn after_offset(percent: u32, amount: i64) -> i64
 // Ten amounts of a class after its offset.
 pub fn offset(points: Points, percent: u32) -> Points
     requires { ⌜ percent ≤ 100 ⌝ }
-    requires { ⌜ ((k : ℕ) → k < 10 → natAbs (getD (points .at) k (pos 0)) ≤ 1280000000000000000) ⌝ }
+    requires { ⌜ ((k : ℕ) → k < 10 → natAbs (getD (points .at) k (pos 0)) ≤ worthLimit) ⌝ }
     ensures { λ r. ⌜ r .at ≡ tabulate 10 (λ k. afterOffset percent (getD (points .at) k (pos 0))) ⌝ }
 {
     let mut next = points;
@@ -38,8 +39,8 @@ pub fn offset(points: Points, percent: u32) -> Points
 
 // Two sets of ten amounts added point by point.
 pub fn plus(points: Points, more: Points) -> Points
-    requires { ⌜ ((k : ℕ) → k < 10 → natAbs (getD (points .at) k (pos 0)) ≤ 1280000000000000000) ⌝ }
-    requires { ⌜ ((k : ℕ) → k < 10 → natAbs (getD (more .at) k (pos 0)) ≤ 1280000000000000000) ⌝ }
+    requires { ⌜ ((k : ℕ) → k < 10 → natAbs (getD (points .at) k (pos 0)) ≤ worthLimit) ⌝ }
+    requires { ⌜ ((k : ℕ) → k < 10 → natAbs (getD (more .at) k (pos 0)) ≤ worthLimit) ⌝ }
     ensures { λ r. ⌜ r .at ≡ tabulate 10 (λ k. getD (points .at) k (pos 0) +ℤ getD (more .at) k (pos 0)) ⌝ }
 {
     let mut next = points;

@@ -8,6 +8,7 @@ ghost use Rattle.numbers.specs.Extremes.{maxZ, largest};
 ghost use Rattle.model.specs.Steps.Margin.{lineAmounts};
 ghost use Rattle.model.proofs.Accepted.{DayRows};
 ghost use Rattle.model.proofs.Records.{Budget};
+ghost use Rattle.classes.specs.Limits.{mtmLimit, spreadLimit, worthLimit};
 ghost use Rattle.classes.specs.Tables.{entry};
 ghost use Rattle.classes.specs.Starts.{startTable};
 use crate::additional;
@@ -32,7 +33,7 @@ fn additional_requirement(points: Points, minimum: i64) -> i64
 
 // Spread + MTM + premium + additional requirement.
 fn group_sum(spread: i64, mtm: i64, premium: i64, requirement: i64) -> i64
-    requires { ⌜ (natAbs spread ≤ 1920000000000000000) × (natAbs mtm ≤ 2560000000000000000) × (natAbs premium ≤ 1280000000000000000) × (natAbs requirement ≤ 1280000000000000000) ⌝ }
+    requires { ⌜ (natAbs spread ≤ spreadLimit) × (natAbs mtm ≤ mtmLimit) × (natAbs premium ≤ worthLimit) × (natAbs requirement ≤ worthLimit) ⌝ }
     ensures { λ r. ⌜ r ≡ spread +ℤ mtm +ℤ premium +ℤ requirement ⌝ }
 {
     amounts::add(

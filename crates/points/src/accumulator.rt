@@ -4,6 +4,7 @@ ghost use Prim.Native.Nat.{ℕ, _≤_, _<_};
 ghost use lib.IntN.{pos, natAbs};
 ghost use lib.ListN.{getD};
 ghost use Rattle.numbers.specs.Table.{tabulate};
+ghost use Rattle.classes.specs.Limits.{contractsLimit, priceLimit, runningLimit};
 ghost use Rattle.points.specs.Added.{changeAmount, added};
 
 // A position: net × multiplier, today's price, and the price at each point.
@@ -19,7 +20,7 @@ pub struct Points {
 
 // What a position adds at one point: net × multiplier × change of the price.
 fn change_amount(contracts: i64, base: u32, price: u32) -> i64
-    requires { ⌜ (natAbs contracts ≤ 2560000000) × (base ≤ 500000000) × (price ≤ 500000000) ⌝ }
+    requires { ⌜ (natAbs contracts ≤ contractsLimit) × (base ≤ priceLimit) × (price ≤ priceLimit) ⌝ }
     ensures { λ r. ⌜ r ≡ changeAmount contracts base price ⌝ }
 {
     amounts::mul(
@@ -35,7 +36,7 @@ impl Points {
 
     pub const PRICE_LIMIT: u32 = 500000000;
 
-    pub const AMOUNT_LIMIT: i64 = 4000000000000000000;
+    pub const RUNNING_LIMIT: i64 = 4000000000000000000;
 
     // Ten zeros.
     pub fn new() -> Self
@@ -48,8 +49,8 @@ impl Points {
 
     // The ten amounts with what the position adds at each point.
     pub fn add(self, position: Position) -> Self
-        requires { ⌜ (natAbs (position .contracts) ≤ 2560000000) × (position .base ≤ 500000000) × ((k : ℕ) → k < 10 → getD (position .prices) k 0 ≤ 500000000) ⌝ }
-        requires { ⌜ ((k : ℕ) → k < 10 → natAbs (getD (self .at) k (pos 0)) ≤ 4000000000000000000) ⌝ }
+        requires { ⌜ (natAbs (position .contracts) ≤ contractsLimit) × (position .base ≤ priceLimit) × ((k : ℕ) → k < 10 → getD (position .prices) k 0 ≤ priceLimit) ⌝ }
+        requires { ⌜ ((k : ℕ) → k < 10 → natAbs (getD (self .at) k (pos 0)) ≤ runningLimit) ⌝ }
         ensures { λ r. ⌜ r .at ≡ added (self .at) (position .contracts) (position .base) (position .prices) ⌝ }
     {
         let mut next = self;

@@ -9,6 +9,7 @@ ghost use Rattle.model.specs.DayFile.{classCount, seriesCount, seriesType, isFu
 ghost use Rattle.model.specs.Steps.Classes.{turned};
 ghost use Rattle.model.specs.Steps.Spread.{spreadQuantity, shortBefore, longBefore};
 ghost use Rattle.model.specs.Steps.Points.{pointOf};
+ghost use Rattle.classes.specs.Limits.{contractsLimit, runningLimit, worthLimit};
 ghost use Rattle.classes.specs.Tables.{entry, Day, Given};
 ghost use Rattle.spread.specs.Sides.{nonSpreadOf};
 ghost use Rattle.points.specs.Series.{openAdded, exercisedAdded};
@@ -22,7 +23,7 @@ use spread::sides::Sides;
 // An open position moves from the closing price to the theoretical prices.
 fn open_position(day: &[u32], s: usize, net: i64) -> Position
     requires { ⌜ Day (now day) ⌝ }
-    requires { ⌜ (s < seriesCount (now day)) × (natAbs net * multiplier (now day) s ≤ 2560000000) ⌝ }
+    requires { ⌜ (s < seriesCount (now day)) × (natAbs net * multiplier (now day) s ≤ contractsLimit) ⌝ }
     ensures { λ r. ⌜ (r .contracts ≡ net *ℤ pos (multiplier (now (day .entry)) s)) × (r .base ≡ closing (now (day .entry)) s) × (r .prices ≡ tabulate 10 (theoretical (now (day .entry)) s)) ⌝ }
 {
     let prices = prices::theoretical_prices(day, s);
@@ -36,7 +37,7 @@ fn open_position(day: &[u32], s: usize, net: i64) -> Position
 // An exercised or assigned one moves from the underlying price to the projected ones, a put the other way.
 fn exercised_position(day: &[u32], c: usize, s: usize, net: i64) -> Position
     requires { ⌜ Day (now day) ⌝ }
-    requires { ⌜ (c < classCount (now day)) × (s < seriesCount (now day)) × (natAbs net * multiplier (now day) s ≤ 2560000000) ⌝ }
+    requires { ⌜ (c < classCount (now day)) × (s < seriesCount (now day)) × (natAbs net * multiplier (now day) s ≤ contractsLimit) ⌝ }
     ensures { λ r. ⌜ (r .contracts ≡ turned (seriesType (now (day .entry)) s) (net *ℤ pos (multiplier (now (day .entry)) s))) × (r .base ≡ underlying (now (day .entry)) c) × (r .prices ≡ tabulate 10 (projected (now (day .entry)) c)) ⌝ }
 {
     let prices = prices::projected_prices(day, c);
@@ -50,7 +51,7 @@ fn exercised_position(day: &[u32], c: usize, s: usize, net: i64) -> Position
 // The open net that counts: futures with only their non-spread net.
 fn counted_net(day: &[u32], s: usize, net: i64, quantity: i64, before: Sides) -> i64
     requires { ⌜ Day (now day) ⌝ }
-    requires { ⌜ (s < seriesCount (now day)) × (natAbs quantity ≤ 2560000000) × (natAbs (before .short) ≤ 2560000000) × (natAbs (before .long) ≤ 2560000000) × (natAbs net ≤ 2560000000) ⌝ }
+    requires { ⌜ (s < seriesCount (now day)) × (natAbs quantity ≤ contractsLimit) × (natAbs (before .short) ≤ contractsLimit) × (natAbs (before .long) ≤ contractsLimit) × (natAbs net ≤ contractsLimit) ⌝ }
     ensures { λ r. ⌜ r ≡ cond (isFuture (seriesType (now (day .entry)) s)) (nonSpreadOf quantity (before .short) (before .long) net) net ⌝ }
 {
     if day_file::series_type(day, s) != 1 {
@@ -62,8 +63,8 @@ fn counted_net(day: &[u32], s: usize, net: i64, quantity: i64, before: Sides) ->
 // The ten amounts with those of an open position; a net of 0 adds none, and its prices are not read.
 fn add_open(points: Points, day: &[u32], s: usize, net: i64) -> Points
     requires { ⌜ Day (now day) ⌝ }
-    requires { ⌜ (s < seriesCount (now day)) × (natAbs net * multiplier (now day) s ≤ 2560000000) ⌝ }
-    requires { ⌜ ((k : ℕ) → k < 10 → natAbs (getD (points .at) k (pos 0)) ≤ 4000000000000000000) ⌝ }
+    requires { ⌜ (s < seriesCount (now day)) × (natAbs net * multiplier (now day) s ≤ contractsLimit) ⌝ }
+    requires { ⌜ ((k : ℕ) → k < 10 → natAbs (getD (points .at) k (pos 0)) ≤ runningLimit) ⌝ }
     ensures { λ r. ⌜ r .at ≡ openAdded (now (day .entry)) s (points .at) net ⌝ }
 {
     if !amounts::not_zero(net) {
@@ -75,8 +76,8 @@ fn add_open(points: Points, day: &[u32], s: usize, net: i64) -> Points
 // The same of an exercised or assigned position.
 fn add_exercised(points: Points, day: &[u32], c: usize, s: usize, net: i64) -> Points
     requires { ⌜ Day (now day) ⌝ }
-    requires { ⌜ (c < classCount (now day)) × (s < seriesCount (now day)) × (natAbs net * multiplier (now day) s ≤ 2560000000) ⌝ }
-    requires { ⌜ ((k : ℕ) → k < 10 → natAbs (getD (points .at) k (pos 0)) ≤ 4000000000000000000) ⌝ }
+    requires { ⌜ (c < classCount (now day)) × (s < seriesCount (now day)) × (natAbs net * multiplier (now day) s ≤ contractsLimit) ⌝ }
+    requires { ⌜ ((k : ℕ) → k < 10 → natAbs (getD (points .at) k (pos 0)) ≤ runningLimit) ⌝ }
     ensures { λ r. ⌜ r .at ≡ exercisedAdded (now (day .entry)) c s (points .at) net ⌝ }
 {
     if !amounts::not_zero(net) {
@@ -100,7 +101,7 @@ pub fn add_series(
     requires { ⌜ (book < 2) × (c < classCount (now day)) × (s < seriesCount (now day)) ⌝ }
     requires { ⌜ quantity ≡ spreadQuantity (now day) (entry (now nets)) book c ⌝ }
     requires { ⌜ (before .short ≡ shortBefore (now day) (entry (now nets)) book c s) × (before .long ≡ longBefore (now day) (entry (now nets)) book c s) ⌝ }
-    requires { ⌜ ((k : ℕ) → k < 10 → natAbs (getD (points .at) k (pos 0)) ≤ 1280000000000000000) ⌝ }
+    requires { ⌜ ((k : ℕ) → k < 10 → natAbs (getD (points .at) k (pos 0)) ≤ worthLimit) ⌝ }
     ensures { λ r. ⌜ r .at ≡ tabulate 10 (λ k. getD (points .at) k (pos 0) +ℤ pointOf (now (day .entry)) (entry (now (nets .entry))) book c k s) ⌝ }
 {
     let net = position_amount(nets, book, 0, s);

@@ -3,6 +3,7 @@ ghost use mathlib.Core.Path.{_≡_};
 ghost use Prim.Native.Nat.{_≤_, _<_};
 ghost use lib.IntN.{natAbs};
 ghost use Rattle.model.specs.Steps.Spread.{spreadQuantity, spread as spreadOf};
+ghost use Rattle.classes.specs.Limits.{contractsLimit, priceLimit};
 ghost use Rattle.classes.specs.Tables.{entry, Given};
 ghost use Rattle.classes.specs.Range.{Range};
 ghost use Rattle.spread.specs.Sides.{spreadAmount};
@@ -10,7 +11,7 @@ use crate::spot;
 
 // Spot spread and non-spot spread, each times its rate.
 fn spread_amount(spot: i64, quantity: i64, near_rate: u32, far_rate: u32) -> i64
-    requires { ⌜ (natAbs spot ≤ 2560000000) × (natAbs quantity ≤ 2560000000) × («near_rate» ≤ 500000000) × («far_rate» ≤ 500000000) ⌝ }
+    requires { ⌜ (natAbs spot ≤ contractsLimit) × (natAbs quantity ≤ contractsLimit) × («near_rate» ≤ priceLimit) × («far_rate» ≤ priceLimit) ⌝ }
     ensures { λ r. ⌜ r ≡ spreadAmount spot quantity «near_rate» «far_rate» ⌝ }
 {
     let near = amounts::smaller(spot, quantity);

@@ -3,13 +3,14 @@ ghost use mathlib.Core.Path.{_≡_};
 ghost use Prim.Native.Nat.{_≤_};
 ghost use lib.IntN.{natAbs};
 ghost use Rattle.model.specs.Steps.Spread.{leftOver};
+ghost use Rattle.classes.specs.Limits.{contractsLimit};
 ghost use Rattle.spread.specs.Sides.{nonSpreadOf};
 use crate::sides;
 use crate::sides::Sides;
 
 // What is left of one side of a series where the earlier series have taken `before` of the spread quantity.
 fn left_over(quantity: i64, before: i64, size: i64) -> i64
-    requires { ⌜ (natAbs quantity ≤ 2560000000) × (natAbs before ≤ 2560000000) × (natAbs size ≤ 2560000000) ⌝ }
+    requires { ⌜ (natAbs quantity ≤ contractsLimit) × (natAbs before ≤ contractsLimit) × (natAbs size ≤ contractsLimit) ⌝ }
     ensures { λ r. ⌜ r ≡ leftOver quantity before size ⌝ }
 {
     let rest = amounts::larger(amounts::sub(quantity, before), 0);
@@ -18,7 +19,7 @@ fn left_over(quantity: i64, before: i64, size: i64) -> i64
 
 // The non-spread net of a future: what is left of its short side − what is left of its long side.
 pub fn non_spread(quantity: i64, before: Sides, net: i64) -> i64
-    requires { ⌜ (natAbs quantity ≤ 2560000000) × (natAbs (before .short) ≤ 2560000000) × (natAbs (before .long) ≤ 2560000000) × (natAbs net ≤ 2560000000) ⌝ }
+    requires { ⌜ (natAbs quantity ≤ contractsLimit) × (natAbs (before .short) ≤ contractsLimit) × (natAbs (before .long) ≤ contractsLimit) × (natAbs net ≤ contractsLimit) ⌝ }
     ensures { λ r. ⌜ r ≡ nonSpreadOf quantity (before .short) (before .long) net ⌝ }
 {
     let short = left_over(quantity, before.short, sides::short_side(net));

@@ -4,6 +4,7 @@ ghost use Prim.Native.Nat.{_≤_, _<_, _^_};
 ghost use lib.IntN.{pos, natAbs, _+ℤ_};
 ghost use Rattle.model.specs.DayFile.{seriesCount};
 ghost use Rattle.model.specs.Steps.Spread.{shortSide, longSide, totalShort, totalLong};
+ghost use Rattle.classes.specs.Limits.{contractsLimit};
 ghost use Rattle.classes.specs.Tables.{entry, Given};
 ghost use Rattle.classes.specs.Range.{Range};
 ghost use Rattle.spread.specs.Sides.{futureShort, futureLong};
@@ -39,7 +40,7 @@ impl Sides {
     pub fn add(self, day: &[u32], nets: &[i64], book: usize, s: usize) -> Self
         requires { ⌜ Given (now day) (now nets) ⌝ }
         requires { ⌜ (book < 2) × (s < seriesCount (now day)) ⌝ }
-        requires { ⌜ (natAbs (self .short) ≤ 2560000000) × (natAbs (self .long) ≤ 2560000000) ⌝ }
+        requires { ⌜ (natAbs (self .short) ≤ contractsLimit) × (natAbs (self .long) ≤ contractsLimit) ⌝ }
         ensures { λ r. ⌜ (r .short ≡ self .short +ℤ futureShort (now (day .entry)) (entry (now (nets .entry))) book s) × (r .long ≡ self .long +ℤ futureLong (now (day .entry)) (entry (now (nets .entry))) book s) ⌝ }
     {
         if day_file::series_type(day, s) != 1 {

@@ -6,6 +6,7 @@ ghost use lib.ListN.{length};
 ghost use Rattle.numbers.specs.Extremes.{absZ};
 ghost use Rattle.numbers.specs.Table.{tabulate};
 ghost use Rattle.model.specs.Steps.Minimum.{minimumRate, typeNet, minimum as minimumOf};
+ghost use Rattle.classes.specs.Limits.{contractsLimit, priceLimit};
 ghost use Rattle.classes.specs.Tables.{entry, Given};
 ghost use Rattle.classes.specs.Range.{Range};
 use classes::positions::position_amount;
@@ -53,7 +54,7 @@ fn minimum_rate(day: &[u32], c: usize, kind: usize) -> u32
 
 // The absolute value of a type's sum times its rate.
 fn type_minimum(net: i64, rate: u32) -> i64
-    requires { ⌜ (natAbs net ≤ 2560000000) × (rate ≤ 500000000) ⌝ }
+    requires { ⌜ (natAbs net ≤ contractsLimit) × (rate ≤ priceLimit) ⌝ }
     ensures { λ r. ⌜ r ≡ absZ net *ℤ pos rate ⌝ }
 {
     amounts::mul(amounts::size(net), amounts::signed(rate))
