@@ -23,7 +23,7 @@ returns c =
     let two = c .before .before .byte-report2 in (
       same-byte-order (now (s .args .day)) (now (s .args .first)) (now (s .args .second)) (now (s .args .a)) (now (s .args .b)) (one .last .1 .1 .0) (two .last .1 .1 .0)
           (one .result) (two .result) (one .ensures .1) (two .ensures .1) (one .ensures .0) (two .ensures .0),
-      (one .ensures .1, two .ensures .1),
+      ((one .ensures .1, two .ensures .1), (one .ensures .0, two .ensures .0)),
     )
 
 pub byte-orders-spec : {M : Type 1} → statement M
