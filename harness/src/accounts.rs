@@ -25,6 +25,15 @@ pub const SMALL: Size = Size { classes: 4, series: 12, records: 16 };
 pub const TYPICAL: Size = Size { classes: 8, series: 40, records: 40 };
 pub const LARGEST: Size = Size { classes: 64, series: 256, records: 256 };
 
+/// The size of account i of a run: of forty, one is the largest, six are typical and the rest small.
+pub fn mixed(i: usize) -> Size {
+    match i % 40 {
+        0 => LARGEST,
+        1..=6 => TYPICAL,
+        _ => SMALL,
+    }
+}
+
 fn price(rng: &mut Rng) -> u32 {
     let limit = rng.pick(&[0, 100, 50_000, 5_000_000, 500_000_000]);
     if rng.once_in(12) {

@@ -1,5 +1,5 @@
 //! Demand 3 at the byte call: the order of records never matters, and an edit of one group of one book stays there.
-use harness::accounts::{account, batch, Account, LARGEST, SMALL, TYPICAL};
+use harness::accounts::{account, batch, mixed, Account};
 use harness::reading::read_report;
 use harness::reckoner::{to_bytes, to_words, Line, Refusal, Report};
 use harness::rng::Rng;
@@ -31,25 +31,12 @@ fn shuffle(rng: &mut Rng, records: &mut [[u32; 6]]) {
     }
 }
 
-fn some_account(rng: &mut Rng, i: usize) -> Account {
-    account(
-        rng,
-        if i % 50 == 0 {
-            LARGEST
-        } else if i % 5 == 0 {
-            TYPICAL
-        } else {
-            SMALL
-        },
-    )
-}
-
 #[test]
 fn reordered_records() {
     let mut rng = Rng::new(301);
     let mut compared = 0;
     for i in 0..6000 {
-        let a = some_account(&mut rng, i);
+        let a = account(&mut rng, mixed(i));
         let mut moved = records(&a.batch);
         shuffle(&mut rng, &mut moved);
         let room = if i % 7 == 0 { rng.below(500) as usize } else { 4460 };
@@ -84,7 +71,7 @@ fn edit_of_one_line() {
     let mut rng = Rng::new(302);
     let (mut edits, mut moved, mut beside, mut gone) = (0, 0, 0, 0);
     for i in 0..12_000 {
-        let a = some_account(&mut rng, i);
+        let a = account(&mut rng, mixed(i));
         let all = records(&a.batch);
         let Some(before) = report(&a) else { continue };
         if all.is_empty() {

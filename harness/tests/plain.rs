@@ -1,5 +1,5 @@
 //! The benchmark's baseline against the reckoner: the same answers and memories.
-use harness::accounts::{account, damage, LARGEST, SMALL, TYPICAL};
+use harness::accounts::{account, damage, mixed};
 use harness::plain;
 use harness::reckoner::{call_bytes, to_bytes};
 use harness::rng::Rng;
@@ -8,14 +8,7 @@ use harness::rng::Rng;
 fn baseline_agrees_with_the_reckoner() {
     let mut rng = Rng::new(7);
     for i in 0..6000 {
-        let mut a = account(
-            &mut rng,
-            match i % 40 {
-                0 => LARGEST,
-                1..=5 => TYPICAL,
-                _ => SMALL,
-            },
-        );
+        let mut a = account(&mut rng, mixed(i));
         if i % 3 == 0 {
             damage(&mut rng, &mut a);
         }

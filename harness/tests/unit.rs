@@ -1,5 +1,5 @@
 //! The byte call against the reckoner: number, place and every byte of the memory.
-use harness::accounts::{accepted, account, all_lines, damage, extreme, utmost, Account, LARGEST, SMALL, TYPICAL};
+use harness::accounts::{accepted, account, all_lines, damage, extreme, mixed, utmost, Account, SMALL, TYPICAL};
 use harness::reading::read_report;
 use harness::reckoner::{call_bytes, reckon, text, to_bytes, to_words, words, Refusal};
 use harness::rng::Rng;
@@ -68,12 +68,7 @@ fn random_and_damaged_accounts() {
     let mut types: BTreeSet<(u32, bool, bool)> = BTreeSet::new();
     let mut longest = 0;
     for i in 0..60_000 {
-        let size = match i % 40 {
-            0 => LARGEST,
-            1..=6 => TYPICAL,
-            _ => SMALL,
-        };
-        let mut a = account(&mut rng, size);
+        let mut a = account(&mut rng, mixed(i));
         let damages = [0, 0, 0, 1, 1, 2][i % 6];
         for _ in 0..damages {
             damage(&mut rng, &mut a);
@@ -151,22 +146,25 @@ fn every_length_of_memory() {
     }
 }
 
+/// Compares with one of the two files changed, in each of the ways from 0 on.
+fn change_each(a: &Account, ways: impl Fn(usize) -> usize, change: impl Fn(&mut Vec<u8>, usize), fill: &mut Rng) {
+    let files = [to_bytes(&a.day), to_bytes(&a.batch)];
+    for which in 0..2 {
+        for n in 0..ways(files[which].len()) {
+            let mut changed = files.clone();
+            change(&mut changed[which], n);
+            compare(&changed[0], &changed[1], 4460, fill, &format!("file {which}, change {n}")).ok();
+        }
+    }
+}
+
 #[test]
 fn every_length_of_files() {
     let mut rng = Rng::new(41);
     let mut fill = Rng::new(42);
     let a = accepted(&mut rng, SMALL);
+    change_each(&a, |len| len + 9, |file, n| file.resize(n, 0), &mut fill);
     let (day, batch) = (to_bytes(&a.day), to_bytes(&a.batch));
-    for n in 0..day.len() + 9 {
-        let mut cut = day.clone();
-        cut.resize(n, 0);
-        compare(&cut, &batch, 4460, &mut fill, &format!("day of {n} bytes")).ok();
-    }
-    for n in 0..batch.len() + 9 {
-        let mut cut = batch.clone();
-        cut.resize(n, 0);
-        compare(&day, &cut, 4460, &mut fill, &format!("batch of {n} bytes")).ok();
-    }
     assert_eq!(compare(&[], &[], 0, &mut fill, "nothing"), Err(Refusal { number: 10, place: 0 }));
     assert_eq!(compare(&day, &[], 0, &mut fill, "no batch"), Err(Refusal { number: 20, place: 0 }));
     assert_eq!(compare(&[], &batch[1..], 0, &mut fill, "ragged"), Err(Refusal { number: 2, place: 0 }));
@@ -179,17 +177,7 @@ fn every_bit() {
     let mut rng = Rng::new(51);
     let mut fill = Rng::new(52);
     let a = accepted(&mut rng, SMALL);
-    let (day, batch) = (to_bytes(&a.day), to_bytes(&a.batch));
-    for bit in 0..8 * day.len() {
-        let mut flipped = day.clone();
-        flipped[bit / 8] ^= 1 << (bit % 8);
-        compare(&flipped, &batch, 4460, &mut fill, &format!("day bit {bit}")).ok();
-    }
-    for bit in 0..8 * batch.len() {
-        let mut flipped = batch.clone();
-        flipped[bit / 8] ^= 1 << (bit % 8);
-        compare(&day, &flipped, 4460, &mut fill, &format!("batch bit {bit}")).ok();
-    }
+    change_each(&a, |len| 8 * len, |file, bit| file[bit / 8] ^= 1 << (bit % 8), &mut fill);
 }
 
 /// The vectors: the printed text from the unit's own bytes.

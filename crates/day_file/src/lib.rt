@@ -3,7 +3,7 @@ ghost use mathlib.Core.Path.{_≡_};
 ghost use Prim.Native.Nat.{_+_, _*_, _≤_, _<_};
 ghost use lib.ListN.{length};
 ghost use Rattle.model.specs.DayFile.{dayHeader, classCount, seriesCount, classWord, classNumber, spotRate, nonSpotRate, optionRate, futureRate, equityRate, warrantRate, rightsRate, seriesWord, seriesKey, seriesType, seriesClassNumber, isOption, isSecurity};
-ghost use Rattle.model.specs.DayFile.{group as groupOf, underlying as underlyingOf, offset as offsetOf, projected as projectedOf, serial as serialOf, expiry as expiryOf, multiplier as multiplierOf, strike as strikeOf, closing as closingOf, theoretical as theoreticalOf};
+ghost use Rattle.model.specs.DayFile.{group as groupOf, underlying as underlyingOf, offset as offsetOf, serial as serialOf, expiry as expiryOf, multiplier as multiplierOf, strike as strikeOf, closing as closingOf};
 use words::bits;
 use words::index;
 use words::payload;
@@ -126,14 +126,6 @@ pub fn offset(day: &[u32], c: usize) -> u32
     payload(class_word(day, c, 9))
 }
 
-// Projected underlying price at point k: D5, D4, D3, D2, D1, U1 to U5.
-pub fn projected(day: &[u32], c: usize, k: usize) -> u32
-    requires { ⌜ (21 + 20 * c ≤ length (now day)) × (k < 10) ⌝ }
-    ensures { λ r. ⌜ r ≡ projectedOf (now (day .entry)) c k ⌝ }
-{
-    payload(class_word(day, c, 10 + k))
-}
-
 // Word i of series s.
 pub fn series_word(day: &[u32], s: usize, i: usize) -> u32
     requires { ⌜ 1 + 20 * classCount (now day) + 14 * s + i < length (now day) ⌝ }
@@ -206,16 +198,8 @@ pub fn closing(day: &[u32], s: usize) -> u32
     payload(series_word(day, s, 3))
 }
 
-// Theoretical price at point k.
-pub fn theoretical(day: &[u32], s: usize, k: usize) -> u32
-    requires { ⌜ (15 + 20 * classCount (now day) + 14 * s ≤ length (now day)) × (k < 10) ⌝ }
-    ensures { λ r. ⌜ r ≡ theoreticalOf (now (day .entry)) s k ⌝ }
-{
-    payload(series_word(day, s, 4 + k))
-}
-
 // Word i of series s in words that may be too few, 0 past their end.
-pub fn series_word_at(day: &[u32], s: usize, i: usize) -> u32
+fn series_word_at(day: &[u32], s: usize, i: usize) -> u32
     requires { ⌜ (s < 4294967296) × (i < 14) ⌝ }
     ensures { λ r. ⌜ r ≡ seriesWord (now (day .entry)) s i ⌝ }
 {

@@ -10,7 +10,7 @@ ghost use Rattle.model.specs.Report.{wordsOfAmounts};
 ghost use Rattle.lines.specs.Amounts.{Small};
 
 // The three words of an amount.
-pub fn write_amount(out: &mut [u32], at: usize, z: i64)
+fn write_amount(out: &mut [u32], at: usize, z: i64)
     requires { ⌜ (at + 3 ≤ length (now out)) × (natAbs z < 2 ^ 63) ⌝ }
     ensures { λ _. ⌜ now (out .exit) ≡ put at (amountWords z) (now (out .entry)) ⌝ }
 {
@@ -20,7 +20,7 @@ pub fn write_amount(out: &mut [u32], at: usize, z: i64)
 }
 
 // Amounts one behind the other.
-pub fn write_amounts(out: &mut [u32], at: usize, amounts: &[i64])
+fn write_amounts(out: &mut [u32], at: usize, amounts: &[i64])
     requires { ⌜ (at + 3 * length (now amounts) ≤ length (now out)) × Small (now amounts) ⌝ }
     ensures { λ _. ⌜ now (out .exit) ≡ put at (wordsOfAmounts (now (amounts .entry))) (now (out .entry)) ⌝ }
 {
@@ -32,7 +32,7 @@ pub fn write_amounts(out: &mut [u32], at: usize, amounts: &[i64])
 }
 
 // A word of a kind, and amounts behind it: a line (kind 2, its key) or the totals (kind 7).
-pub fn write_headed(out: &mut [u32], kind: u32, payload: u32, amounts: &[i64])
+fn write_headed(out: &mut [u32], kind: u32, payload: u32, amounts: &[i64])
     requires { ⌜ (kind < 8) × (payload < 2 ^ 29) ⌝ }
     requires { ⌜ (1 + 3 * length (now amounts) ≤ length (now out)) × Small (now amounts) ⌝ }
     ensures { λ _. ⌜ now (out .exit) ≡ put 0 (word kind payload ∷ wordsOfAmounts (now (amounts .entry))) (now (out .entry)) ⌝ }

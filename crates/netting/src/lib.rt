@@ -17,7 +17,7 @@ use model::Verdict;
 use numbers::Found;
 
 // What record r adds to the net of its position: short − long.
-pub fn change(batch: &[u32], r: usize) -> i64
+fn change(batch: &[u32], r: usize) -> i64
     requires { ⌜ 7 + 6 * r ≤ length (now batch) ⌝ }
     ensures { λ z. ⌜ z ≡ pos (short (now (batch .entry)) r) -ℤ pos (long (now (batch .entry)) r) ⌝ }
 {
@@ -27,7 +27,7 @@ pub fn change(batch: &[u32], r: usize) -> i64
 }
 
 // Adds z to entry k of a table.
-pub fn add_at(table: &mut [i64], k: usize, z: i64)
+fn add_at(table: &mut [i64], k: usize, z: i64)
     requires { ⌜ k < length (now table) ⌝ }
     requires { ⌜ SFits w64 (getD (now table) k (pos 0) +ℤ z) ⌝ }
     ensures { λ _. ⌜ now (table .exit) ≡ set (now (table .entry)) k (getD (now (table .entry)) k (pos 0) +ℤ z) ⌝ }
@@ -54,7 +54,7 @@ pub fn net_positions(batch: &[u32], nets: &mut [i64], dvps: &mut [i64])
 }
 
 // Row 30 at record r: absolute net × multiplier above 10,000,000.
-pub fn too_large(day: &[u32], batch: &[u32], nets: &[i64], r: usize) -> bool
+fn too_large(day: &[u32], batch: &[u32], nets: &[i64], r: usize) -> bool
     requires { ⌜ Limited (now batch) ⌝ }
     requires { ⌜ Placed (now day) (now batch) ⌝ }
     requires { ⌜ now nets ≡ tabulate 1024 (netOf (now batch)) ⌝ }
@@ -68,7 +68,7 @@ pub fn too_large(day: &[u32], batch: &[u32], nets: &[i64], r: usize) -> bool
 }
 
 // The first record of a position that row 30 refuses.
-pub fn first_too_large(day: &[u32], batch: &[u32], nets: &[i64]) -> Found
+fn first_too_large(day: &[u32], batch: &[u32], nets: &[i64]) -> Found
     requires { ⌜ Limited (now batch) ⌝ }
     requires { ⌜ Placed (now day) (now batch) ⌝ }
     requires { ⌜ now nets ≡ tabulate 1024 (netOf (now batch)) ⌝ }

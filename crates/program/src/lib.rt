@@ -7,6 +7,7 @@ ghost use Rattle.numbers.specs.Put.{put};
 ghost use Rattle.model.specs.Bytes.{wordsOf, writtenBytes};
 ghost use Rattle.model.specs.Calls.{memoryAfter, report as reportOf};
 ghost use Rattle.model.specs.Printed.{programText};
+ghost use Rattle.text.specs.Room.{longestText};
 ghost use Rattle.program.specs.Files.{filesAnswer, callText};
 use model::Answer;
 use model::BytesFault;
@@ -42,7 +43,7 @@ fn print_through(
 ) -> usize
     requires { ⌜ now memory ≡ replicate 4460 0 ⌝ }
     requires { ⌜ length (now words) ≡ 1115 ⌝ }
-    requires { ⌜ 9090 ≤ length (now out) ⌝ }
+    requires { ⌜ longestText ≤ length (now out) ⌝ }
     ensures { λ r. ⌜ (r ≡ length (programText first (now (day .entry)) second (now (batch .entry)))) × (now (out .exit) ≡ put 0 (programText first (now (day .entry)) second (now (batch .entry))) (now (out .entry))) ⌝ }
     ensures { λ r. ⌜ Counts r (now (out .exit)) ⌝ }
     ensures { λ _. ⌜ now (memory .exit) ≡ writtenBytes (filesAnswer first (now (day .entry)) second (now (batch .entry))) (reportOf (wordsOf (now (day .entry))) (wordsOf (now (batch .entry)))) (replicate 4460 0) ⌝ }
@@ -55,7 +56,7 @@ fn print_through(
 
 // The text at the front of the buffer; its length.
 pub fn print_files(first: bool, day: &[u8], second: bool, batch: &[u8], out: &mut [u8]) -> usize
-    requires { ⌜ 9090 ≤ length (now out) ⌝ }
+    requires { ⌜ longestText ≤ length (now out) ⌝ }
     ensures { λ r. ⌜ (r ≡ length (programText first (now (day .entry)) second (now (batch .entry)))) × (now (out .exit) ≡ put 0 (programText first (now (day .entry)) second (now (batch .entry))) (now (out .entry))) ⌝ }
     ensures { λ r. ⌜ Counts r (now (out .exit)) ⌝ }
 {
@@ -66,7 +67,7 @@ pub fn print_files(first: bool, day: &[u8], second: bool, batch: &[u8], out: &mu
 
 // The same of two files of words and a memory of any length.
 pub fn print_words(day: &[u32], batch: &[u32], memory: &mut [u32], out: &mut [u8]) -> usize
-    requires { ⌜ 9090 ≤ length (now out) ⌝ }
+    requires { ⌜ longestText ≤ length (now out) ⌝ }
     ensures { λ r. ⌜ (r ≡ length (callText (now (day .entry)) (now (batch .entry)) (now (memory .entry)))) × (now (out .exit) ≡ put 0 (callText (now (day .entry)) (now (batch .entry)) (now (memory .entry))) (now (out .entry))) ⌝ }
     ensures { λ r. ⌜ Counts r (now (out .exit)) ⌝ }
     ensures { λ _. ⌜ now (memory .exit) ≡ memoryAfter (now (day .entry)) (now (batch .entry)) (now (memory .entry)) ⌝ }

@@ -8,6 +8,7 @@ ghost use Rattle.numbers.specs.Put.{put};
 ghost use Rattle.model.specs.Bytes.{wordsOf};
 ghost use Rattle.model.specs.Calls.{memoryAfter};
 ghost use Rattle.program.specs.Files.{callText};
+ghost use Rattle.text.specs.Room.{longestText};
 ghost use Rattle.random_accounts.specs.Fronts.{front, behind};
 use libc::STDOUT_FILENO;
 use words::index;
@@ -46,7 +47,7 @@ fn read_words(fd: i32, n: usize, bytes: &mut [u8], words: &mut [u32]) -> usize
 
 // Case i: its heading, then the report or the refusal.
 fn print_case(i: u32, day: &[u32], batch: &[u32], memory: &mut [u32], out: &mut [u8])
-    requires { ⌜ 9090 ≤ length (now out) ⌝ }
+    requires { ⌜ longestText ≤ length (now out) ⌝ }
     ensures { λ _. ⌜ now (memory .exit) ≡ memoryAfter (now (day .entry)) (now (batch .entry)) (now (memory .entry)) ⌝ }
     ensures { λ _. ⌜ now (out .exit) ≡ put 0 (callText (now (day .entry)) (now (batch .entry)) (now (memory .entry))) (now (out .entry)) ⌝ }
 {
@@ -66,7 +67,7 @@ fn print_fronts(
     memory: &mut [u32],
     out: &mut [u8],
 )
-    requires { ⌜ 9090 ≤ length (now out) ⌝ }
+    requires { ⌜ longestText ≤ length (now out) ⌝ }
     ensures { λ _. ⌜ now (memory .exit) ≡ memoryAfter (front (now (lengths .entry)) 0 (now (day .entry))) (front (now (lengths .entry)) 1 (now (batch .entry))) (front (now (lengths .entry)) 2 (now (memory .entry))) ++ behind (now (lengths .entry)) 2 (now (memory .entry)) ⌝ }
     ensures { λ _. ⌜ now (out .exit) ≡ put 0 (callText (front (now (lengths .entry)) 0 (now (day .entry))) (front (now (lengths .entry)) 1 (now (batch .entry))) (front (now (lengths .entry)) 2 (now (memory .entry)))) (now (out .entry)) ⌝ }
 {

@@ -33,7 +33,7 @@ pub fn write_head(out: &mut [u8], at: usize, head: &[u8]) -> usize
 }
 
 // The decimal digits of n.
-pub fn write_decimal(out: &mut [u8], at: usize, n: u64) -> usize
+fn write_decimal(out: &mut [u8], at: usize, n: u64) -> usize
     requires { ⌜ at + 20 ≤ length (now out) ⌝ }
     ensures { λ r. ⌜ (r ≡ at + length (decimal n)) × (now (out .exit) ≡ put at (decimal n) (now (out .entry))) ⌝ }
 {
@@ -45,7 +45,7 @@ pub fn write_decimal(out: &mut [u8], at: usize, n: u64) -> usize
 }
 
 // A minus sign before a negative.
-pub fn write_signed(out: &mut [u8], at: usize, z: i64) -> usize
+fn write_signed(out: &mut [u8], at: usize, z: i64) -> usize
     requires { ⌜ (at + 21 ≤ length (now out)) × (natAbs z < 2 ^ 63) ⌝ }
     ensures { λ r. ⌜ (r ≡ at + length (signedDecimal z)) × (now (out .exit) ≡ put at (signedDecimal z) (now (out .entry))) ⌝ }
 {
@@ -67,7 +67,7 @@ pub fn write_number(out: &mut [u8], at: usize, n: u64) -> usize
 }
 
 // The amount that stands at word i.
-pub fn amount_at(report: &[u32], i: usize) -> i64
+fn amount_at(report: &[u32], i: usize) -> i64
     requires { ⌜ i ≤ 1000000 ⌝ }
     ensures { λ z. ⌜ z ≡ amountIn (now (report .entry)) i ⌝ }
 {
@@ -79,7 +79,7 @@ pub fn amount_at(report: &[u32], i: usize) -> i64
 }
 
 // A space and the amount that stands at word i.
-pub fn write_amount(out: &mut [u8], at: usize, report: &[u32], i: usize) -> usize
+fn write_amount(out: &mut [u8], at: usize, report: &[u32], i: usize) -> usize
     requires { ⌜ (at + 22 ≤ length (now out)) × (i ≤ 1000000) ⌝ }
     ensures { λ r. ⌜ (r ≡ at + length (32 ∷ signedDecimal (amountIn (now (report .entry)) i))) × (now (out .exit) ≡ put at (32 ∷ signedDecimal (amountIn (now (report .entry)) i)) (now (out .entry))) ⌝ }
 {

@@ -5,7 +5,7 @@ ghost use lib.ListN.{length};
 ghost use Rattle.numbers.specs.Put.{put};
 ghost use Rattle.model.specs.Reading.{countIn};
 ghost use Rattle.model.specs.Printed.{lineText, linesText, countText, totalsText, reportText, refusalText, printed};
-ghost use Rattle.text.specs.Room.{Room};
+ghost use Rattle.text.specs.Room.{Room, longestText};
 ghost use Rattle.text.specs.Texts.{headOf};
 use crate::fields::write_amounts;
 use crate::fields::write_byte;
@@ -18,7 +18,7 @@ use words::wide;
 use words::word_at;
 
 // O, or F where bit 5 of a line's key is set.
-pub fn write_book(out: &mut [u8], at: usize, key: u32) -> usize
+fn write_book(out: &mut [u8], at: usize, key: u32) -> usize
     requires { ⌜ at + 1 ≤ length (now out) ⌝ }
     ensures { λ r. ⌜ (r ≡ at + length (headOf key)) × (now (out .exit) ≡ put at (headOf key) (now (out .entry))) ⌝ }
 {
@@ -29,7 +29,7 @@ pub fn write_book(out: &mut [u8], at: usize, key: u32) -> usize
 }
 
 // The line that begins at word i of the report.
-pub fn write_line(out: &mut [u8], at: usize, report: &[u32], i: usize) -> usize
+fn write_line(out: &mut [u8], at: usize, report: &[u32], i: usize) -> usize
     requires { ⌜ (at + 155 ≤ length (now out)) × (i ≤ 10000) ⌝ }
     ensures { λ r. ⌜ (r ≡ at + length (lineText (now (report .entry)) i)) × (now (out .exit) ≡ put at (lineText (now (report .entry)) i) (now (out .entry))) ⌝ }
 {
@@ -41,7 +41,7 @@ pub fn write_line(out: &mut [u8], at: usize, report: &[u32], i: usize) -> usize
 }
 
 // The first n lines of the report.
-pub fn write_lines(out: &mut [u8], at: usize, report: &[u32], n: usize) -> usize
+fn write_lines(out: &mut [u8], at: usize, report: &[u32], n: usize) -> usize
     requires { ⌜ (at + 155 * n ≤ length (now out)) × (n ≤ 58) ⌝ }
     ensures { λ r. ⌜ (r ≡ at + length (linesText (now (report .entry)) n)) × (now (out .exit) ≡ put at (linesText (now (report .entry)) n) (now (out .entry))) ⌝ }
 {
@@ -55,7 +55,7 @@ pub fn write_lines(out: &mut [u8], at: usize, report: &[u32], n: usize) -> usize
 }
 
 // The line count.
-pub fn write_count(out: &mut [u8], at: usize, n: u64) -> usize
+fn write_count(out: &mut [u8], at: usize, n: u64) -> usize
     requires { ⌜ at + 28 ≤ length (now out) ⌝ }
     ensures { λ r. ⌜ (r ≡ at + length (countText n)) × (now (out .exit) ≡ put at (countText n) (now (out .entry))) ⌝ }
 {
@@ -65,7 +65,7 @@ pub fn write_count(out: &mut [u8], at: usize, n: u64) -> usize
 }
 
 // The three totals, from word i of the report on.
-pub fn write_totals(out: &mut [u8], at: usize, report: &[u32], i: usize) -> usize
+fn write_totals(out: &mut [u8], at: usize, report: &[u32], i: usize) -> usize
     requires { ⌜ (at + 72 ≤ length (now out)) × (i ≤ 100000) ⌝ }
     ensures { λ r. ⌜ (r ≡ at + length (totalsText (now (report .entry)) i)) × (now (out .exit) ≡ put at (totalsText (now (report .entry)) i) (now (out .entry))) ⌝ }
 {
@@ -75,8 +75,8 @@ pub fn write_totals(out: &mut [u8], at: usize, report: &[u32], i: usize) -> usiz
 }
 
 // The text of a report, from its words.
-pub fn write_report(out: &mut [u8], report: &[u32]) -> usize
-    requires { ⌜ 9090 ≤ length (now out) ⌝ }
+fn write_report(out: &mut [u8], report: &[u32]) -> usize
+    requires { ⌜ longestText ≤ length (now out) ⌝ }
     requires { ⌜ countIn (now report) ≤ 58 ⌝ }
     ensures { λ r. ⌜ (r ≡ length (reportText (now (report .entry)))) × (now (out .exit) ≡ put 0 (reportText (now (report .entry))) (now (out .entry))) ⌝ }
 {
@@ -88,8 +88,8 @@ pub fn write_report(out: &mut [u8], report: &[u32]) -> usize
 }
 
 // The text of a refusal.
-pub fn write_refusal(out: &mut [u8], number: u64, place: u64) -> usize
-    requires { ⌜ 9090 ≤ length (now out) ⌝ }
+fn write_refusal(out: &mut [u8], number: u64, place: u64) -> usize
+    requires { ⌜ longestText ≤ length (now out) ⌝ }
     ensures { λ r. ⌜ (r ≡ length (refusalText number place)) × (now (out .exit) ≡ put 0 (refusalText number place) (now (out .entry))) ⌝ }
 {
     let a = write_head(out, 0, b"REFUSED");
@@ -100,7 +100,7 @@ pub fn write_refusal(out: &mut [u8], number: u64, place: u64) -> usize
 
 // What the program prints for an answer and the report's words, at the front of the buffer; its length.
 pub fn write_answer(answer: Answer, report: &[u32], out: &mut [u8]) -> usize
-    requires { ⌜ 9090 ≤ length (now out) ⌝ }
+    requires { ⌜ longestText ≤ length (now out) ⌝ }
     requires { ⌜ Room answer (now report) ⌝ }
     ensures { λ r. ⌜ (r ≡ length (printed answer (now (report .entry)))) × (now (out .exit) ≡ put 0 (printed answer (now (report .entry))) (now (out .entry))) ⌝ }
 {

@@ -1,5 +1,5 @@
 //! Writes seeds of the fuzz target into a folder: two bytes of day length, two of memory length, day file, batch.
-use harness::accounts::{account, damage, Account, LARGEST, SMALL, TYPICAL};
+use harness::accounts::{account, damage, mixed, Account};
 use harness::reckoner::to_bytes;
 use harness::rng::Rng;
 use harness::samples::samples;
@@ -28,12 +28,7 @@ fn main() -> ExitCode {
     }
     let mut rng = Rng::new(99);
     for i in 0..60 {
-        let size = match i % 20 {
-            0 => LARGEST,
-            1..=4 => TYPICAL,
-            _ => SMALL,
-        };
-        let mut a = account(&mut rng, size);
+        let mut a = account(&mut rng, mixed(i));
         if i % 3 == 2 {
             damage(&mut rng, &mut a);
         }
