@@ -1,4 +1,4 @@
-// Signed arithmetic with contracts in plain integers, so that a caller's proof never meets a machine word.
+// Signed arithmetic with contracts in plain integers: each result is exact where it fits 64 bits.
 ghost use mathlib.Core.Path.{_≡_};
 ghost use lib.IntN.{pos, natAbs, _+ℤ_, _-ℤ_, _*ℤ_};
 ghost use mir.Syntax.{w64};
@@ -52,8 +52,8 @@ pub fn smaller(a: i64, b: i64) -> i64
     b
 }
 
-// The size of an amount.
-pub fn size(a: i64) -> i64
+// The absolute value.
+pub fn absolute(a: i64) -> i64
     requires { ⌜ natAbs a < 2 ^ 63 ⌝ }
     ensures { λ r. ⌜ r ≡ absZ a ⌝ }
 {

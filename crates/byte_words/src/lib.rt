@@ -32,7 +32,7 @@ pub fn decode(bytes: &[u8], words: &mut [u32])
     let n = bytes.len() / 4;
     let mut i: usize = 0;
     while i < n {
-        words[0 + i] = word_of(bytes, i);
+        words[i] = word_of(bytes, i);
         i = i + 1;
     }
 }

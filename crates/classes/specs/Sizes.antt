@@ -5,6 +5,7 @@ use native.Mathlib.Nat.{mul-le-mul, le-refl}
 use native.Mathlib.Omega.{arith}
 use lib.IntN.{ℤ, natAbs}
 use Rattle.numbers.specs.Budget.{sumN-at}
+use Rattle.model.specs.Limits.{contractsLimit}
 use Rattle.model.specs.DayFile.{seriesCount, multiplier}
 use Rattle.model.specs.Netting.{position}
 use Rattle.model.proofs.Limits.{multiplier-least}
@@ -12,7 +13,7 @@ use Rattle.classes.specs.Tables.{entry, Given}
 
 module _ (d : List ℕ) (nets : List ℤ) (w : Given d nets) (k x s : ℕ) (hk : k < 2) (hx : x < 2) (hs : s < seriesCount d) where
   -- net × multiplier
-  pub contracts-size : natAbs (entry nets (position k x s)) * multiplier d s ≤ 2560000000
+  pub contracts-size : natAbs (entry nets (position k x s)) * multiplier d s ≤ contractsLimit
   contracts-size =
       omega (
         arith,
@@ -21,6 +22,6 @@ module _ (d : List ℕ) (nets : List ℤ) (w : Given d nets) (k x s : ℕ) (hk :
         w .budget .few,
       )
 
-  pub net-size : natAbs (entry nets (position k x s)) ≤ 2560000000
+  pub net-size : natAbs (entry nets (position k x s)) ≤ contractsLimit
   net-size =
       omega (arith, contracts-size, mul-le-mul (le-refl (natAbs (entry nets (position k x s)))) (multiplier-least d (w .day .rows) s hs))

@@ -4,8 +4,8 @@ ghost use Prim.Native.Nat.{_+_, _*_, _≤_, _<_, _^_};
 ghost use lib.IntN.{pos, natAbs, _*ℤ_};
 ghost use lib.ListN.{length};
 ghost use Rattle.model.specs.DayFile.{classCount, multiplier};
-ghost use Rattle.model.specs.Steps.Classes.{worth as worthOf, turned as turnedOf};
-ghost use Rattle.classes.specs.Limits.{contractsLimit, priceLimit};
+ghost use Rattle.model.specs.Steps.Classes.{worth as worthOf, signedByType};
+ghost use Rattle.model.specs.Limits.{contractsLimit, priceLimit};
 
 // Net × multiplier.
 pub fn contracts(day: &[u32], s: usize, net: i64) -> i64
@@ -25,14 +25,14 @@ pub fn worth(day: &[u32], s: usize, net: i64, price: i64) -> i64
 }
 
 // A difference as a call has it, its negative for a put, none for another type.
-pub fn turned(kind: u32, z: i64) -> i64
+pub fn signed_by_type(t: u32, z: i64) -> i64
     requires { ⌜ natAbs z < 2 ^ 63 ⌝ }
-    ensures { λ r. ⌜ r ≡ turnedOf kind z ⌝ }
+    ensures { λ r. ⌜ r ≡ signedByType t z ⌝ }
 {
-    if kind == 2 {
+    if day_file::is_call(t) {
         return z;
     }
-    if kind == 3 {
+    if day_file::is_put(t) {
         return amounts::sub(0, z);
     }
     0

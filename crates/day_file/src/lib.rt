@@ -2,7 +2,7 @@
 ghost use mathlib.Core.Path.{_≡_};
 ghost use Prim.Native.Nat.{_+_, _*_, _≤_, _<_};
 ghost use lib.ListN.{length};
-ghost use Rattle.model.specs.DayFile.{dayHeader, classCount, seriesCount, classWord, classNumber, spotRate, nonSpotRate, optionRate, futureRate, equityRate, warrantRate, rightsRate, seriesWord, seriesKey, seriesType, seriesClassNumber, isOption, isSecurity};
+ghost use Rattle.model.specs.DayFile.{dayHeader, classCount, seriesCount, classWord, classNumber, spotRate, nonSpotRate, optionRate, futureRate, equityRate, warrantRate, rightsRate, seriesWord, seriesKey, seriesType, seriesClassNumber, isFuture, isCall, isPut, isOption, isSecurity};
 ghost use Rattle.model.specs.DayFile.{group as groupOf, underlying as underlyingOf, offset as offsetOf, serial as serialOf, expiry as expiryOf, multiplier as multiplierOf, strike as strikeOf, closing as closingOf};
 use words::bits;
 use words::index;
@@ -214,11 +214,32 @@ pub fn series_type_at(day: &[u32], s: usize) -> u32
     bits(payload(series_word_at(day, s, 0)), 19, 4)
 }
 
-// A call or a put: types 2 and 3.
+// Type 1.
+pub fn is_future(t: u32) -> bool
+    ensures { λ r. ⌜ r ≡ isFuture t ⌝ }
+{
+    t == 1
+}
+
+// Type 2.
+pub fn is_call(t: u32) -> bool
+    ensures { λ r. ⌜ r ≡ isCall t ⌝ }
+{
+    t == 2
+}
+
+// Type 3.
+pub fn is_put(t: u32) -> bool
+    ensures { λ r. ⌜ r ≡ isPut t ⌝ }
+{
+    t == 3
+}
+
+// A call or a put.
 pub fn is_option(t: u32) -> bool
     ensures { λ r. ⌜ r ≡ isOption t ⌝ }
 {
-    (t == 2) | (t == 3)
+    is_call(t) | is_put(t)
 }
 
 // Types 4 to 6.

@@ -10,6 +10,7 @@ ghost use Rattle.day_series.specs.Presence.{presence};
 use day_file::class_count;
 use day_file::class_number;
 use day_file::expiry;
+use day_file::is_future;
 use day_file::is_security;
 use day_file::serial;
 use day_file::series_class_number;
@@ -99,7 +100,7 @@ fn bad_type(day: &[u32], s: usize) -> bool
     let k = strike(day, s);
     !((1 <= t) & (t <= 6))
         | ((t <= 3) & (0 < serial(day, s)))
-        | ((t == 1) & (0 < k))
+        | (is_future(t) & (0 < k))
         | (is_security(t) & ((0 < k) | (0 < expiry(day, s))))
 }
 

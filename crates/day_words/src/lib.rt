@@ -3,8 +3,10 @@ ghost use mathlib.Core.Path.{_≡_};
 ghost use Prim.Native.Nat.{_+_, _*_, _-_, _≤_, _<_};
 ghost use lib.ListN.{length};
 ghost use Rattle.numbers.specs.Scan.{firstBad, anyBelow};
+ghost use Rattle.model.specs.Words.{badPrice};
 ghost use Rattle.model.specs.DayFile.{classCount, seriesCount};
 ghost use Rattle.model.specs.DayChecks.{badClassWord, badSeriesWord, badClass, badSeries, row12};
+use accumulator::Points;
 use day_file::class_count;
 use day_file::class_word;
 use day_file::group;
@@ -12,8 +14,16 @@ use day_file::multiplier;
 use day_file::series_count;
 use day_file::series_word;
 use numbers::Found;
-use words::bad_price;
 use words::bad_word;
+use words::kind;
+use words::payload;
+
+// A price or rate: kind 3, at most what the points' accumulator takes.
+fn bad_price(w: u32) -> bool
+    ensures { λ r. ⌜ r ≡ badPrice w ⌝ }
+{
+    (kind(w) != 3) | Points::price_too_large(payload(w))
+}
 
 // Word i of class c: the key (bits 11 on are spare), the offset, or a price or rate.
 fn bad_class_word(day: &[u32], c: usize, i: usize) -> bool

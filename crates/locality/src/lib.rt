@@ -1,4 +1,4 @@
-// Demand 3 of the code: two reports with one day file, of two batches that are edits or reorderings; and they are demand 2's.
+// Demand 3 of the code: two reports with one day file, of two batches that are edits or reorderings, into `memory` and `other`; and they are demand 2's.
 ghost use mathlib.Core.Path.{_≡_};
 ghost use lib.ListN.{length};
 ghost use Rattle.model.specs.Bytes.{byteAnswer, bytesAfter};
@@ -7,53 +7,71 @@ ghost use Rattle.locality.specs.Edits.{LocalEdit, LocalByteEdit, SameOrd
 use model::Answer;
 
 // Two reports over words: an edit in one group of one book changes its line alone.
-pub fn report_edits(day: &[u32], first: &[u32], second: &[u32], a: &mut [u32], b: &mut [u32])
-    ensures { λ _. ⌜ LocalEdit (now (day .entry)) (now (first .entry)) (now (second .entry)) (now (a .entry)) (now (b .entry)) (now (a .exit)) (now (b .exit)) ⌝ }
-    ensures { λ _. ⌜ (now (a .exit) ≡ memoryAfter (now (day .entry)) (now (first .entry)) (now (a .entry))) × (now (b .exit) ≡ memoryAfter (now (day .entry)) (now (second .entry)) (now (b .entry))) ⌝ }
+pub fn report_edits(
+    day: &[u32],
+    batch: &[u32],
+    edited: &[u32],
+    memory: &mut [u32],
+    other: &mut [u32],
+)
+    ensures { λ _. ⌜ LocalEdit (now (day .entry)) (now (batch .entry)) (now (edited .entry)) (now (memory .entry)) (now (other .entry)) (now (memory .exit)) (now (other .exit)) ⌝ }
+    ensures { λ _. ⌜ (now (memory .exit) ≡ memoryAfter (now (day .entry)) (now (batch .entry)) (now (memory .entry))) × (now (other .exit) ≡ memoryAfter (now (day .entry)) (now (edited .entry)) (now (other .entry))) ⌝ }
 {
-    report::report(day, first, a);
-    report::report(day, second, b);
+    report::report(day, batch, memory);
+    report::report(day, edited, other);
 }
 
 // Two reports over bytes: the same.
-pub fn byte_edits(day: &[u8], first: &[u8], second: &[u8], a: &mut [u8], b: &mut [u8])
-    ensures { λ _. ⌜ LocalByteEdit (now (day .entry)) (now (first .entry)) (now (second .entry)) (now (a .entry)) (now (b .entry)) (now (a .exit)) (now (b .exit)) ⌝ }
-    ensures { λ _. ⌜ (now (a .exit) ≡ bytesAfter (now (day .entry)) (now (first .entry)) (now (a .entry))) × (now (b .exit) ≡ bytesAfter (now (day .entry)) (now (second .entry)) (now (b .entry))) ⌝ }
+pub fn byte_edits(day: &[u8], batch: &[u8], edited: &[u8], memory: &mut [u8], other: &mut [u8])
+    ensures { λ _. ⌜ LocalByteEdit (now (day .entry)) (now (batch .entry)) (now (edited .entry)) (now (memory .entry)) (now (other .entry)) (now (memory .exit)) (now (other .exit)) ⌝ }
+    ensures { λ _. ⌜ (now (memory .exit) ≡ bytesAfter (now (day .entry)) (now (batch .entry)) (now (memory .entry))) × (now (other .exit) ≡ bytesAfter (now (day .entry)) (now (edited .entry)) (now (other .entry))) ⌝ }
 {
-    mars::byte_report(day, first, a);
-    mars::byte_report(day, second, b);
+    mars::byte_report(day, batch, memory);
+    mars::byte_report(day, edited, other);
 }
 
 // The answers of two calls.
 pub struct Answers {
-    pub one: Answer,
-    pub two: Answer,
+    pub batch: Answer,
+    pub reordered: Answer,
 }
 
 // Two reports over words: the order of the records changes nothing.
 pub fn report_orders(
     day: &[u32],
-    first: &[u32],
-    second: &[u32],
-    a: &mut [u32],
-    b: &mut [u32],
+    batch: &[u32],
+    reordered: &[u32],
+    memory: &mut [u32],
+    other: &mut [u32],
 ) -> Answers
-    ensures { λ r. ⌜ SameOrder (now (day .entry)) (now (first .entry)) (now (second .entry)) (now (a .entry)) (now (b .entry)) (now (a .exit)) (now (b .exit)) (r .one) (r .two) ⌝ }
-    ensures { λ _. ⌜ (now (a .exit) ≡ memoryAfter (now (day .entry)) (now (first .entry)) (now (a .entry))) × (now (b .exit) ≡ memoryAfter (now (day .entry)) (now (second .entry)) (now (b .entry))) ⌝ }
-    ensures { λ r. ⌜ (r .one ≡ answer (now (day .entry)) (now (first .entry)) (length (now (a .entry)))) × (r .two ≡ answer (now (day .entry)) (now (second .entry)) (length (now (b .entry)))) ⌝ }
+    ensures { λ r. ⌜ SameOrder (now (day .entry)) (now (batch .entry)) (now (reordered .entry)) (now (memory .entry)) (now (other .entry)) (now (memory .exit)) (now (other .exit)) (r .batch) (r .reordered) ⌝ }
+    ensures { λ _. ⌜ (now (memory .exit) ≡ memoryAfter (now (day .entry)) (now (batch .entry)) (now (memory .entry))) × (now (other .exit) ≡ memoryAfter (now (day .entry)) (now (reordered .entry)) (now (other .entry))) ⌝ }
+    ensures { λ r. ⌜ (r .batch ≡ answer (now (day .entry)) (now (batch .entry)) (length (now (memory .entry)))) × (r .reordered ≡ answer (now (day .entry)) (now (reordered .entry)) (length (now (other .entry)))) ⌝ }
 {
-    let one = report::report(day, first, a);
-    let two = report::report(day, second, b);
-    Answers { one, two }
+    let answer = report::report(day, batch, memory);
+    let reordered_answer = report::report(day, reordered, other);
+    Answers {
+        batch: answer,
+        reordered: reordered_answer,
+    }
 }
 
 // Two reports over bytes: the same.
-pub fn byte_orders(day: &[u8], first: &[u8], second: &[u8], a: &mut [u8], b: &mut [u8]) -> Answers
-    ensures { λ r. ⌜ SameByteOrder (now (day .entry)) (now (first .entry)) (now (second .entry)) (now (a .entry)) (now (b .entry)) (now (a .exit)) (now (b .exit)) (r .one) (r .two) ⌝ }
-    ensures { λ _. ⌜ (now (a .exit) ≡ bytesAfter (now (day .entry)) (now (first .entry)) (now (a .entry))) × (now (b .exit) ≡ bytesAfter (now (day .entry)) (now (second .entry)) (now (b .entry))) ⌝ }
-    ensures { λ r. ⌜ (r .one ≡ byteAnswer (now (day .entry)) (now (first .entry)) (length (now (a .entry)))) × (r .two ≡ byteAnswer (now (day .entry)) (now (second .entry)) (length (now (b .entry)))) ⌝ }
+pub fn byte_orders(
+    day: &[u8],
+    batch: &[u8],
+    reordered: &[u8],
+    memory: &mut [u8],
+    other: &mut [u8],
+) -> Answers
+    ensures { λ r. ⌜ SameByteOrder (now (day .entry)) (now (batch .entry)) (now (reordered .entry)) (now (memory .entry)) (now (other .entry)) (now (memory .exit)) (now (other .exit)) (r .batch) (r .reordered) ⌝ }
+    ensures { λ _. ⌜ (now (memory .exit) ≡ bytesAfter (now (day .entry)) (now (batch .entry)) (now (memory .entry))) × (now (other .exit) ≡ bytesAfter (now (day .entry)) (now (reordered .entry)) (now (other .entry))) ⌝ }
+    ensures { λ r. ⌜ (r .batch ≡ byteAnswer (now (day .entry)) (now (batch .entry)) (length (now (memory .entry)))) × (r .reordered ≡ byteAnswer (now (day .entry)) (now (reordered .entry)) (length (now (other .entry)))) ⌝ }
 {
-    let one = mars::byte_report(day, first, a);
-    let two = mars::byte_report(day, second, b);
-    Answers { one, two }
+    let answer = mars::byte_report(day, batch, memory);
+    let reordered_answer = mars::byte_report(day, reordered, other);
+    Answers {
+        batch: answer,
+        reordered: reordered_answer,
+    }
 }

@@ -16,7 +16,7 @@ use Rattle.model.specs.Steps.Premium.{premium}
 use Rattle.model.specs.Steps.Minimum.{minimum}
 use Rattle.model.specs.Steps.Points.{classPoint}
 use Rattle.model.specs.Steps.Additional.{afterOffset}
-use Rattle.classes.specs.Limits.{worthLimit, spreadLimit, mtmLimit}
+use Rattle.model.specs.Limits.{worthLimit, spreadLimit, mtmLimit}
 use Rattle.model.proofs.Accepted.{DayRows}
 use Rattle.model.proofs.Records.{Budget}
 use Rattle.model.proofs.Bounds.{class-spread, class-mtm, class-premium, class-minimum, class-offset, spread-over, mtm-over, premium-over, minimum-over, point-over}

@@ -1,7 +1,7 @@
 -- The six amounts of a line from the sums over the group's classes.
 use mathlib.Core.Path.{_≡_, ap, _∙_}
 use mathlib.Core.List.{List, [], _∷_}
-use Prim.Native.Nat.{ℕ, _≤_}
+use Prim.Native.Nat.{ℕ, _≤_, _+_}
 use native.Mathlib.Omega.{arith}
 use lib.IntN.{ℤ, pos, natAbs, _+ℤ_}
 use lib.ListN.{getD}
@@ -9,6 +9,7 @@ use Rattle.numbers.specs.Abs.{natAbs-+}
 use Rattle.numbers.specs.Extremes.{maxZ, largest, largest-ext, largest-abs, max-abs}
 use Rattle.numbers.specs.Table.{getD-tabulate}
 use Rattle.margin.specs.declared.group.Amounts.{Amounts}
+use Rattle.model.specs.Limits.{worthLimit, mtmLimit, spreadLimit, marginLimit}
 use Rattle.model.specs.DayFile.{classCount}
 use Rattle.model.specs.Steps.Classes.{overClasses}
 use Rattle.model.specs.Steps.Additional.{groupPoint, additional}
@@ -45,19 +46,19 @@ module _ (d : List ℕ) (n v : ℕ → ℤ) (k g : ℕ) (a : Amounts) (o : a ≡
   unfolding lineAmounts groupSpread groupMtm groupPremium overClasses margin residual
   line-is = λ i. o i .spread ∷ o i .mtm ∷ o i .premium ∷ requirement-is i ∷ marginOf (sum-is i) ∷ residualOf (sum-is i) ∷ []
 
-pub requirement-size : (a : Amounts) → Small a → natAbs (requirementOf (a .points .at) (a .minimum)) ≤ 1280000000000000000
+pub requirement-size : (a : Amounts) → Small a → natAbs (requirementOf (a .points .at) (a .minimum)) ≤ worthLimit
 requirement-size a w =
-    max-abs (largest 10 (λ j. getD (a .points .at) j (pos 0))) (a .minimum) 1280000000000000000
-    (largest-abs 10 (λ j. getD (a .points .at) j (pos 0)) 1280000000000000000 (w .pointsSmall)) (w .minimumSmall)
+    max-abs (largest 10 (λ j. getD (a .points .at) j (pos 0))) (a .minimum) worthLimit
+    (largest-abs 10 (λ j. getD (a .points .at) j (pos 0)) worthLimit (w .pointsSmall)) (w .minimumSmall)
 
 -- the sums on the way
-module _ (s t p r : ℤ) (hs : natAbs s ≤ 1920000000000000000) (ht : natAbs t ≤ 2560000000000000000) (hp : natAbs p ≤ 1280000000000000000)
-    (hr : natAbs r ≤ 1280000000000000000) where
-  pub two-size : natAbs (s +ℤ t) ≤ 4480000000000000000
+module _ (s t p r : ℤ) (hs : natAbs s ≤ spreadLimit) (ht : natAbs t ≤ mtmLimit) (hp : natAbs p ≤ worthLimit)
+    (hr : natAbs r ≤ worthLimit) where
+  pub two-size : natAbs (s +ℤ t) ≤ spreadLimit + mtmLimit
   two-size = omega (arith, natAbs-+ s t)
 
-  pub three-size : natAbs (s +ℤ t +ℤ p) ≤ 5760000000000000000
+  pub three-size : natAbs (s +ℤ t +ℤ p) ≤ spreadLimit + mtmLimit + worthLimit
   three-size = omega (arith, natAbs-+ (s +ℤ t) p, two-size)
 
-  pub sum-size : natAbs (sumOf s t p r) ≤ 7040000000000000000
+  pub sum-size : natAbs (sumOf s t p r) ≤ marginLimit
   sum-size = omega (arith, natAbs-+ (s +ℤ t +ℤ p) r, three-size)

@@ -6,8 +6,8 @@ ghost use lib.ListN.{getD};
 ghost use Rattle.numbers.specs.Extremes.{largest as largestOf};
 ghost use Rattle.numbers.specs.Table.{tabulate};
 ghost use Rattle.model.specs.Steps.Additional.{afterOffset};
-ghost use Rattle.classes.specs.Limits.{worthLimit};
-use points::accumulator::Points;
+ghost use Rattle.model.specs.Limits.{worthLimit};
+use accumulator::Points;
 
 // A credit times the offset in percent, rounded toward zero; a debit whole. The product alone could wrap, so the quotient and the remainder by 100 go apart.
 fn after_offset(percent: u32, amount: i64) -> i64

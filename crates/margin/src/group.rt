@@ -8,7 +8,7 @@ ghost use Rattle.classes.specs.Range.{Range};
 ghost use Rattle.classes.specs.Starts.{startTable};
 ghost use Rattle.margin.specs.Groups.{Small, noAmounts, added, classAmounts, amountsBelow};
 use crate::additional;
-use points::accumulator::Points;
+use accumulator::Points;
 use points::class_points;
 
 pub struct Amounts {

@@ -8,12 +8,12 @@ ghost use Rattle.numbers.specs.Extremes.{maxZ, largest};
 ghost use Rattle.model.specs.Steps.Margin.{lineAmounts};
 ghost use Rattle.model.proofs.Accepted.{DayRows};
 ghost use Rattle.model.proofs.Records.{Budget};
-ghost use Rattle.classes.specs.Limits.{mtmLimit, spreadLimit, worthLimit};
+ghost use Rattle.model.specs.Limits.{mtmLimit, spreadLimit, worthLimit};
 ghost use Rattle.classes.specs.Tables.{entry};
 ghost use Rattle.classes.specs.Starts.{startTable};
 use crate::additional;
 use crate::group;
-use points::accumulator::Points;
+use accumulator::Points;
 
 pub struct Line {
     pub spread: i64,

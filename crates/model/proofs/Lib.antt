@@ -1,4 +1,5 @@
 pub mod Tests
+pub mod WordsBack
 pub mod Accepted
 pub mod Agreement
 pub mod Limits

@@ -11,6 +11,7 @@ use lib.IntN.{natAbs}
 use lib.ListN.{length}
 use Rattle.numbers.specs.Scan.{firstBad, hit, first-clear}
 use Rattle.numbers.specs.Lists.{nothing-hit}
+use Rattle.model.specs.Limits.{priceLimit, quantityLimit, dvpAmountLimit, positionLimit, mostRecords}
 use Rattle.model.specs.Words.{kind, payload, bits, badWord, negative}
 use Rattle.model.specs.DayFile.{classCount, seriesCount, classWord, seriesWord, group, underlying, offset, multiplier, closing}
 use Rattle.model.specs.DayChecks.{badClassWord, badSeriesWord, badClass, badSeries, row11, row12}
@@ -39,11 +40,11 @@ module _ (d : List ℕ) (r : DayRows d) where
         first-clear (badClassWord d c) 20
         (nothing-hit (firstBad (badClassWord d c) 20) (or-left (hit (firstBad (badClassWord d c) 20)) (ltb 28 (group d c)) class-good))
 
-    pub class-price : (i : ℕ) → i < 20 → i ≢ 0 → i ≢ 9 → payload (classWord d c i) ≤ 500000000
+    pub class-price : (i : ℕ) → i < 20 → i ≢ 0 → i ≢ 9 → payload (classWord d c i) ≤ priceLimit
     unfolding badClassWord
-    class-price i p q o = within (classWord d c i) 3 500000000 (rw (ne-eqb i 0 q, ne-eqb i 9 o) at (class-word i p))
+    class-price i p q o = within (classWord d c i) 3 priceLimit (rw (ne-eqb i 0 q, ne-eqb i 9 o) at (class-word i p))
 
-    pub underlying-limit : underlying d c ≤ 500000000
+    pub underlying-limit : underlying d c ≤ priceLimit
     underlying-limit = class-price 1 (omega arith) (λ z. omega arith) (λ z. omega arith)
 
     pub offset-limit : offset d c ≤ 100
@@ -65,11 +66,11 @@ module _ (d : List ℕ) (r : DayRows d) where
         first-clear (badSeriesWord d s) 14
         (nothing-hit (firstBad (badSeriesWord d s) 14) (or-left (hit (firstBad (badSeriesWord d s) 14)) (eqb (multiplier d s) 0) series-good))
 
-    pub series-price : (i : ℕ) → i < 14 → i ≢ 0 → i ≢ 1 → payload (seriesWord d s i) ≤ 500000000
+    pub series-price : (i : ℕ) → i < 14 → i ≢ 0 → i ≢ 1 → payload (seriesWord d s i) ≤ priceLimit
     unfolding badSeriesWord
-    series-price i p q o = within (seriesWord d s i) 3 500000000 (rw (ne-eqb i 0 q, ne-eqb i 1 o) at (series-word i p))
+    series-price i p q o = within (seriesWord d s i) 3 priceLimit (rw (ne-eqb i 0 q, ne-eqb i 1 o) at (series-word i p))
 
-    pub closing-limit : closing d s ≤ 500000000
+    pub closing-limit : closing d s ≤ priceLimit
     closing-limit = series-price 3 (omega arith) (λ z. omega arith) (λ z. omega arith)
 
     pub multiplier-least : 1 ≤ multiplier d s
@@ -79,9 +80,9 @@ module _ (d : List ℕ) (r : DayRows d) where
         omega arith
 
 module _ (d b : List ℕ) (r : BatchChecks d b) where
-  pub few-records : recordCount b ≤ 256
+  pub few-records : recordCount b ≤ mostRecords
   unfolding row20
-  few-records = ltb-false 256 (recordCount b) (or-right (eqb (length b) 0 || not (eqb (kind (batchHeader b)) 1)) (ltb 256 (recordCount b)) (r .at20))
+  few-records = ltb-false mostRecords (recordCount b) (or-right (eqb (length b) 0 || not (eqb (kind (batchHeader b)) 1)) (ltb 256 (recordCount b)) (r .at20))
 
   pub batch-length : length b ≡ 1 + 6 * recordCount b
   unfolding row21
@@ -92,38 +93,38 @@ module _ (d b : List ℕ) (r : BatchChecks d b) where
     bad i k l = badWord (recordWord b q i) k l
 
     -- key, long, short
-    quantities : (bad 0 2 1023 || bad 1 4 10000000 || bad 2 4 10000000) ≡ false
+    quantities : (bad 0 2 1023 || bad 1 4 quantityLimit || bad 2 4 quantityLimit) ≡ false
     unfolding row22 badRecordWord
     quantities =
-        or-left (bad 0 2 1023 || bad 1 4 10000000 || bad 2 4 10000000) (bad 3 5 536870911)
-        (or-left (bad 0 2 1023 || bad 1 4 10000000 || bad 2 4 10000000 || bad 3 5 536870911) (bad 4 6 536870911)
-        (or-left (bad 0 2 1023 || bad 1 4 10000000 || bad 2 4 10000000 || bad 3 5 536870911 || bad 4 6 536870911) (bad 5 6 536870911)
+        or-left (bad 0 2 1023 || bad 1 4 quantityLimit || bad 2 4 quantityLimit) (bad 3 5 536870911)
+        (or-left (bad 0 2 1023 || bad 1 4 quantityLimit || bad 2 4 quantityLimit || bad 3 5 536870911) (bad 4 6 536870911)
+        (or-left (bad 0 2 1023 || bad 1 4 quantityLimit || bad 2 4 quantityLimit || bad 3 5 536870911 || bad 4 6 536870911) (bad 5 6 536870911)
         (or-left (badRecordWord b q) (badDvp b q) (r .at22 q h))))
 
-    pub long-limit : long b q ≤ 10000000
-    long-limit = within (recordWord b q 1) 4 10000000 (or-right (bad 0 2 1023) (bad 1 4 10000000) (or-left (bad 0 2 1023 || bad 1 4 10000000) (bad 2 4 10000000) quantities))
+    pub long-limit : long b q ≤ quantityLimit
+    long-limit = within (recordWord b q 1) 4 quantityLimit (or-right (bad 0 2 1023) (bad 1 4 quantityLimit) (or-left (bad 0 2 1023 || bad 1 4 quantityLimit) (bad 2 4 quantityLimit) quantities))
 
-    pub short-limit : short b q ≤ 10000000
-    short-limit = within (recordWord b q 2) 4 10000000 (or-right (bad 0 2 1023 || bad 1 4 10000000) (bad 2 4 10000000) quantities)
+    pub short-limit : short b q ≤ quantityLimit
+    short-limit = within (recordWord b q 2) 4 quantityLimit (or-right (bad 0 2 1023 || bad 1 4 quantityLimit) (bad 2 4 quantityLimit) quantities)
 
     pub place-limit : place b q < seriesCount d
     unfolding row23
     place-limit = leb-false (seriesCount d) (place b q) (r .at23 q h)
 
-    dvp-size : dvpSize b q ≤ 5000000000000000
+    dvp-size : dvpSize b q ≤ dvpAmountLimit
     unfolding row22 badDvp
     dvp-size =
-        ltb-false 5000000000000000 (dvpSize b q)
-        (or-right (ltb 0 (bits (payload (recordWord b q 3)) 5 23) || (eqb (negative (recordWord b q 3)) 1 && eqb (dvpSize b q) 0)) (ltb 5000000000000000 (dvpSize b q))
+        ltb-false dvpAmountLimit (dvpSize b q)
+        (or-right (ltb 0 (bits (payload (recordWord b q 3)) 5 23) || (eqb (negative (recordWord b q 3)) 1 && eqb (dvpSize b q) 0)) (ltb dvpAmountLimit (dvpSize b q))
         (or-right (badRecordWord b q) (badDvp b q) (r .at22 q h)))
 
-    pub dvp-limit : natAbs (dvpAmount b q) ≤ 5000000000000000
+    pub dvp-limit : natAbs (dvpAmount b q) ≤ dvpAmountLimit
     dvp-limit = rw (size-amount (recordWord b q 3) (recordWord b q 4) (recordWord b q 5)) dvp-size
 
 module _ (d b : List ℕ) (r : BatchRows d b) (q : ℕ) (h : q < recordCount b) where
-  pub net-limit : natAbs (net b (key b q)) * multiplier d (place b q) ≤ 10000000
+  pub net-limit : natAbs (net b (key b q)) * multiplier d (place b q) ≤ positionLimit
   unfolding row30
-  net-limit = ltb-false 10000000 (natAbs (net b (key b q)) * multiplier d (place b q)) (r .at30 q h)
+  net-limit = ltb-false positionLimit (natAbs (net b (key b q)) * multiplier d (place b q)) (r .at30 q h)
 
 pub day-length : (d : List ℕ) → DayRows d → length d ≡ 1 + 20 * classCount d + 14 * seriesCount d
 unfolding row11

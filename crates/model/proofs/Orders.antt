@@ -7,6 +7,7 @@ use lib.Dec.{eqb, ltb}
 use lib.IntN.{ℤ, natAbs}
 use lib.ListN.{length, getD}
 use Rattle.numbers.specs.Scan.{firstBad, hit, first-none, first-clear}
+use Rattle.model.specs.Limits.{positionLimit, mostRecords}
 use Rattle.numbers.specs.Lists.{any-perm, hit-any, nothing-hit}
 use Rattle.model.specs.Words.{kind, payload, bits}
 use Rattle.model.specs.DayFile.{multiplier}
@@ -42,7 +43,7 @@ module _ (d b₁ b₂ : List ℕ) (o : Reordered b₁ b₂) where
   rows r =
       record {
         checks = record {
-          at20 = sym (λ i. eqb (o .long i) 0 || not (eqb (kind (o .header i)) 1) || ltb 256 (payload (o .header i))) ∙ r .checks .at20;
+          at20 = sym (λ i. eqb (o .long i) 0 || not (eqb (kind (o .header i)) 1) || ltb mostRecords (payload (o .header i))) ∙ r .checks .at20;
           at21 = sym (λ i. not (eqb (o .long i) (1 + 6 * payload (o .header i)))) ∙ r .checks .at21;
           at22 = carried b₁ b₂ (o .same) (λ w. row22 (0 ∷ w) 0) (r .checks .at22);
           at23 = carried b₁ b₂ (o .same) (λ w. row23 d (0 ∷ w) 0) (r .checks .at23);
@@ -52,8 +53,8 @@ module _ (d b₁ b₂ : List ℕ) (o : Reordered b₁ b₂) where
         };
         at30 =
             λ q h.
-            ap (λ (n : ℕ → ℤ). ltb 10000000 (natAbs (n (keyOf (recordAt b₂ q))) * multiplier d (bits (payload (getD (recordAt b₂ q) 0 0)) 0 8))) (sym net-same)
-            ∙ carried b₁ b₂ (o .same) (λ w. ltb 10000000 (natAbs (net b₁ (keyOf w)) * multiplier d (bits (payload (getD w 0 0)) 0 8))) (r .at30) q h;
+            ap (λ (n : ℕ → ℤ). ltb positionLimit (natAbs (n (keyOf (recordAt b₂ q))) * multiplier d (bits (payload (getD (recordAt b₂ q) 0 0)) 0 8))) (sym net-same)
+            ∙ carried b₁ b₂ (o .same) (λ w. ltb positionLimit (natAbs (net b₁ (keyOf w)) * multiplier d (bits (payload (getD w 0 0)) 0 8))) (r .at30) q h;
       }
 
   accepted-still : Accepted d b₁ → Accepted d b₂

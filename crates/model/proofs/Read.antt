@@ -10,7 +10,8 @@ use lib.IntN.{ℤ, pos, natAbs, _+ℤ_}
 use lib.ListN.{length, take, drop, length-append}
 use lib.Seq.{drop-append-add}
 use Rattle.numbers.specs.Maps.{mapBelow, bit, map-lt, map-mod, map-bit, blocks-length, block-at}
-use Rattle.model.specs.Words.{word, payload-word, amountWords, amount-back}
+use Rattle.model.specs.Words.{word, amountWords}
+use Rattle.model.proofs.WordsBack.{payload-word, amount-back}
 use Rattle.model.specs.Steps.{hasLine, margin, lineAmounts, total}
 use Rattle.model.specs.Report.{wordsOfAmounts, bookMap, lineWords, bookLines, lineCount, totals, reportWords}
 use Rattle.model.specs.Reading.{countIn, mapIn, standsIn, linesBefore, lineIn, totalIn, amountIn, marginIn}

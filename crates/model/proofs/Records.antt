@@ -8,6 +8,7 @@ use borrow.Author.Tests.{eqb-true}
 use lib.Dec.{eqb}
 use lib.IntN.{ℤ, pos, natAbs, _-ℤ_}
 use Rattle.numbers.specs.declared.Found.{Found}
+use Rattle.model.specs.Limits.{positionLimit, dvpAmountLimit, mostRecords}
 use Rattle.numbers.specs.declared.Found.the-variants.{At, Nothing}
 use Rattle.numbers.specs.Scan.{firstBad, first-at, first-clear}
 use Rattle.numbers.specs.Sums.{sumWhere-none}
@@ -24,25 +25,25 @@ use Rattle.model.proofs.Whole.{tabled}
 -- at most 256 records in all; a net (row 30) and a DVP (row 22) are within the limits of the records of their position
 pub record Budget (d : List ℕ) (n v : ℕ → ℤ) : Type 0 where
   pub records : ℕ → ℕ
-  pub few : sumN 1024 records ≤ 256
-  pub netLimit : (k x s : ℕ) → s < seriesCount d → x < 2 → k < 2 → natAbs (n (position k x s)) * multiplier d s ≤ 10000000 * records (position k x s)
-  pub dvpLimit : (p : ℕ) → p < 1024 → natAbs (v p) ≤ 5000000000000000 * records p
+  pub few : sumN 1024 records ≤ mostRecords
+  pub netLimit : (k x s : ℕ) → s < seriesCount d → x < 2 → k < 2 → natAbs (n (position k x s)) * multiplier d s ≤ positionLimit * records (position k x s)
+  pub dvpLimit : (p : ℕ) → p < 1024 → natAbs (v p) ≤ dvpAmountLimit * records p
 
 module _ (d b : List ℕ) (days : DayRows d) (recs : BatchRows d b) where
   abbrev count : ℕ → ℕ
   count p = sumNWhere (recordCount b) (λ r. eqb (key b r) p) (λ r. 1)
 
-  net-bound : (k x s : ℕ) → s < seriesCount d → x < 2 → natAbs (net b (position k x s)) * multiplier d s ≤ 10000000 * count (position k x s)
+  net-bound : (k x s : ℕ) → s < seriesCount d → x < 2 → natAbs (net b (position k x s)) * multiplier d s ≤ positionLimit * count (position k x s)
   unfolding net
   net-bound k x s hs hx = by (firstBad (λ r. eqb (key b r) (position k x s)) (recordCount b)) refl
     where
       by : (f : Found) → firstBad (λ r. eqb (key b r) (position k x s)) (recordCount b) ≡ f
-          → natAbs (net b (position k x s)) * multiplier d s ≤ 10000000 * count (position k x s)
+          → natAbs (net b (position k x s)) * multiplier d s ≤ positionLimit * count (position k x s)
       by (At r) e =
           let z = first-at (λ r. eqb (key b r) (position k x s)) (recordCount b) r e in
           let q : key b r ≡ position k x s = eqb-true (key b r) (position k x s) (z .1) in
           let p : place b r ≡ s = key-place _ k x s (omega (arith, few-series d days)) hx q in
-          let l : natAbs (net b (position k x s)) * multiplier d s ≤ 10000000 = rw (q, p) at (net-limit d b recs r (z .0)) in
+          let l : natAbs (net b (position k x s)) * multiplier d s ≤ positionLimit = rw (q, p) at (net-limit d b recs r (z .0)) in
           let one : _≡_ {A = ℕ} (cond (eqb (key b r) (position k x s)) 1 0) 1 = rw (z .1) in
           omega (arith, sumN-at (recordCount b) (λ r. cond (eqb (key b r) (position k x s)) 1 0) r (z .0))
       by Nothing e =
@@ -52,10 +53,10 @@ module _ (d b : List ℕ) (days : DayRows d) (recs : BatchRows d b) where
           in
           rw z (omega arith)
 
-  dvp-bound : (p : ℕ) → natAbs (dvp b p) ≤ 5000000000000000 * count p
+  dvp-bound : (p : ℕ) → natAbs (dvp b p) ≤ dvpAmountLimit * count p
   unfolding dvp
   dvp-bound p =
-      bound-where (recordCount b) (λ r. eqb (key b r) p) (λ r. eqb (key b r) p) (dvpAmount b) (λ r. 1) 5000000000000000 (λ r e. e)
+      bound-where (recordCount b) (λ r. eqb (key b r) p) (λ r. eqb (key b r) p) (dvpAmount b) (λ r. 1) dvpAmountLimit (λ r e. e)
       (λ r h e. omega (arith, dvp-limit d b (recs .checks) r h))
 
   -- an accepted batch is within its budget: no record is counted twice

@@ -11,6 +11,7 @@ use Rattle.model.specs.declared.BatchLengthFault.the-variants.{BadBatchL
 use Rattle.model.specs.declared.BatchWordsFault.the-variants.{BadBatchWord}
 use Rattle.model.specs.declared.PositionFault.the-variants.{SeriesAbsent, ExercisedNonOption, FailNonSecurity, DvpNonSecurity}
 use Rattle.model.specs.declared.Verdict.{Verdict}
+use Rattle.model.specs.Limits.{quantityLimit, dvpAmountLimit, mostRecords}
 use Rattle.model.specs.Words.{kind, payload, bits, negative, badWord}
 use Rattle.model.specs.Rows.{_orElse_, plainRow, recordRow}
 use Rattle.model.specs.DayFile.{seriesCount, seriesType, isOption, isSecurity}
@@ -18,7 +19,7 @@ use Rattle.model.specs.Batch.{batchHeader, recordCount, recordWord, plac
 
 -- no words, wrong kind, P too large
 unfoldable pub row20 : List ℕ → Bool
-row20 b = eqb (length b) 0 || not (eqb (kind (batchHeader b)) 1) || ltb 256 (recordCount b)
+row20 b = eqb (length b) 0 || not (eqb (kind (batchHeader b)) 1) || ltb mostRecords (recordCount b)
 
 -- length isn't 1 + 6P
 unfoldable pub row21 : List ℕ → Bool
@@ -28,8 +29,8 @@ row21 b = not (eqb (length b) (1 + 6 * recordCount b))
 unfoldable pub badRecordWord : List ℕ → ℕ → Bool
 badRecordWord b r =
     badWord (recordWord b r 0) 2 1023
-    || badWord (recordWord b r 1) 4 10000000
-    || badWord (recordWord b r 2) 4 10000000
+    || badWord (recordWord b r 1) 4 quantityLimit
+    || badWord (recordWord b r 2) 4 quantityLimit
     || badWord (recordWord b r 3) 5 536870911
     || badWord (recordWord b r 4) 6 536870911
     || badWord (recordWord b r 5) 6 536870911
@@ -39,7 +40,7 @@ unfoldable pub badDvp : List ℕ → ℕ → Bool
 badDvp b r =
     ltb 0 (bits (payload (recordWord b r 3)) 5 23)
     || (eqb (negative (recordWord b r 3)) 1 && eqb (dvpSize b r) 0)
-    || ltb 5000000000000000 (dvpSize b r)
+    || ltb dvpAmountLimit (dvpSize b r)
 
 -- wrong kind, spare bit, out of range, minus zero
 unfoldable pub row22 : List ℕ → ℕ → Bool

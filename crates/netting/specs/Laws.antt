@@ -13,6 +13,7 @@ use Rattle.numbers.specs.Abs.{cond-ind, natAbs-+, natAbs-pos-sub, fits-by, back
 use Rattle.numbers.specs.Slots.{slot, slots, slots-more}
 use Rattle.numbers.specs.Sums.{sumTo-abs}
 use Rattle.numbers.specs.Table.{tabulate, length-tabulate, getD-tabulate}
+use Rattle.model.specs.Limits.{contractsLimit, quantityLimit, dvpAmountLimit}
 use Rattle.model.specs.Batch.{recordCount, key, long, short}
 use Rattle.model.specs.Netting.{net}
 use Rattle.netting.specs.Limits.{Limited}
@@ -32,32 +33,32 @@ module _ (m : ℕ) (key : ℕ → ℕ) (f : ℕ → ℤ) (l : List ℤ) (r k : �
   pub slot-added : set l k (getD l k (pos 0) +ℤ z) ≡ slots m key f (r + 1)
   slot-added = (λ i. set (e i) (q i) (entry i +ℤ w i)) ∙ slots-more m key f r h
 
-  pub slot-fits : (n : ℕ) → r < n → n ≤ 256 → ((i : ℕ) → i < n → natAbs (f i) ≤ 5000000000000000) → SFits w64 (getD l k (pos 0) +ℤ z)
+  pub slot-fits : (n : ℕ) → r < n → n ≤ 256 → ((i : ℕ) → i < n → natAbs (f i) ≤ dvpAmountLimit) → SFits w64 (getD l k (pos 0) +ℤ z)
   slot-fits n hr hn small =
       fits-by (λ i. entry i +ℤ w i)
       (omega (
         arith,
         natAbs-+ (slot key f r (key r)) (f r),
         small r hr,
-        sumTo-abs r (λ i. cond (eqb (key i) (key r)) (f i) (pos 0)) 5000000000000000
+        sumTo-abs r (λ i. cond (eqb (key i) (key r)) (f i) (pos 0)) dvpAmountLimit
             (λ i p.
-            cond-ind (eqb (key i) (key r)) (f i) (pos 0) (λ y. natAbs y ≤ 5000000000000000) (λ t. small i (omega arith)) (λ t. omega arith)),
+            cond-ind (eqb (key i) (key r)) (f i) (pos 0) (λ y. natAbs y ≤ dvpAmountLimit) (λ t. small i (omega arith)) (λ t. omega arith)),
       ))
 
-pub change-limit : (b : List ℕ) → Limited b → (r : ℕ) → r < recordCount b → natAbs (change b r) ≤ 5000000000000000
+pub change-limit : (b : List ℕ) → Limited b → (r : ℕ) → r < recordCount b → natAbs (change b r) ≤ dvpAmountLimit
 change-limit b s r h =
-    omega (arith, natAbs-pos-sub (short b r) (long b r) 10000000 (s .shorts r h) (s .longs r h))
+    omega (arith, natAbs-pos-sub (short b r) (long b r) quantityLimit (s .shorts r h) (s .longs r h))
 
-pub net-limit : (b : List ℕ) → Limited b → (p : ℕ) → natAbs (net b p) ≤ 2560000000
+pub net-limit : (b : List ℕ) → Limited b → (p : ℕ) → natAbs (net b p) ≤ contractsLimit
 unfolding net
 net-limit b s p =
     omega (
       arith,
       s .few,
-      sumTo-abs (recordCount b) (λ r. cond (eqb (key b r) p) (change b r) (pos 0)) 10000000
+      sumTo-abs (recordCount b) (λ r. cond (eqb (key b r) p) (change b r) (pos 0)) quantityLimit
           (λ r h.
-          cond-ind (eqb (key b r) p) (change b r) (pos 0) (λ y. natAbs y ≤ 10000000)
-          (λ t. natAbs-pos-sub (short b r) (long b r) 10000000 (s .shorts r h) (s .longs r h)) (λ t. omega arith)),
+          cond-ind (eqb (key b r) p) (change b r) (pos 0) (λ y. natAbs y ≤ quantityLimit)
+          (λ t. natAbs-pos-sub (short b r) (long b r) quantityLimit (s .shorts r h) (s .longs r h)) (λ t. omega arith)),
     )
 
 -- the net of record r's position, as read from the table

@@ -4,6 +4,7 @@ use mathlib.Core.List.{List}
 use Prim.Native.Nat.{ℕ, _+_, _*_, _≤_, _<_}
 use lib.IntN.{natAbs}
 use lib.ListN.{length}
+use Rattle.model.specs.Limits.{quantityLimit, dvpAmountLimit}
 use Rattle.model.specs.DayFile.{classCount, seriesCount}
 use Rattle.model.proofs.Accepted.{DayRows, BatchChecks}
 use Rattle.model.proofs.Limits.{batch-length, few-records, long-limit, short-limit, dvp-limit, place-limit, day-length}
@@ -12,9 +13,9 @@ use Rattle.model.specs.Batch.{recordCount, place, long, short, dvpAmount}
 pub record Limited (b : List ℕ) : Type 0 where
   pub whole : length b ≡ 1 + 6 * recordCount b
   pub few : recordCount b ≤ 256
-  pub longs : (r : ℕ) → r < recordCount b → long b r ≤ 10000000
-  pub shorts : (r : ℕ) → r < recordCount b → short b r ≤ 10000000
-  pub dvps : (r : ℕ) → r < recordCount b → natAbs (dvpAmount b r) ≤ 5000000000000000
+  pub longs : (r : ℕ) → r < recordCount b → long b r ≤ quantityLimit
+  pub shorts : (r : ℕ) → r < recordCount b → short b r ≤ quantityLimit
+  pub dvps : (r : ℕ) → r < recordCount b → natAbs (dvpAmount b r) ≤ dvpAmountLimit
 
 -- .. and to be held against the day file: its length, and the places of the series (rows 11 and 23)
 pub record Placed (d b : List ℕ) : Type 0 where

@@ -11,6 +11,7 @@ ghost use Rattle.model.specs.Netting.{net as netOf, dvp as dvpOf};
 ghost use Rattle.netting.specs.Limits.{Limited, Placed};
 ghost use Rattle.numbers.specs.Scan.{firstBad};
 ghost use Rattle.model.specs.Netting.{row30, nettingCheck};
+use accumulator::Points;
 use model::Check;
 use model::NettingFault;
 use model::Verdict;
@@ -64,7 +65,7 @@ fn too_large(day: &[u32], batch: &[u32], nets: &[i64], r: usize) -> bool
     let k = batch::key(batch, r);
     let contracts = words::size(nets[k]);
     let per_contract = words::wide(day_file::multiplier(day, k % 256));
-    10000000 < contracts * per_contract
+    Points::position_too_large(contracts * per_contract)
 }
 
 // The first record of a position that row 30 refuses.

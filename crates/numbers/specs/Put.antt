@@ -1,4 +1,4 @@
--- What writing leaves: `put at w l` is l with w written over it from place `at` on. Each function that writes says what it wrote by this.
+-- Laws of what writing leaves: `put at w l` is l with w written over it from place `at` on. Each function that writes says what it wrote by this.
 use mathlib.Core.Path.{_≡_, sym, ap, _∙_}
 use mathlib.Core.List.{List, [], _∷_, _++_, append-assoc, append-nil}
 use Prim.Native.Nat.{ℕ, _+_, _-_, _≤_, _<_}
@@ -8,11 +8,9 @@ use native.Mathlib.Omega.{arith}
 use lib.ListN.{length, take, drop, getD, set, length-append, length-drop, take-append-drop, drop-of-length-le}
 use lib.Seq.{length-take-le, take-suc, take-at, take-all, drop-append-add, drop-drop, set-split}
 use borrow.Rule.Slice.PartMut.{putMid, midOf}
+unfoldable pub use Rattle.numbers.specs.Definitions.{put}
 
 module _ {A : Type 0} where
-  unfoldable pub put : ℕ → List A → List A → List A
-  put at w l = take at l ++ (w ++ drop (at + length w) l)
-
   -- nothing written
   pub put-none : (at : ℕ) (l : List A) → put at [] l ≡ l
   unfolding put

@@ -10,19 +10,20 @@ use lib.ListN.{length, getD}
 use Rattle.numbers.specs.Abs.{natAbs-*, natAbs-*-le}
 use Rattle.numbers.specs.Sums.{sumWhere}
 use Rattle.numbers.specs.Table.{tabulate, getD-tabulate, tabulate-ext}
+use Rattle.model.specs.Limits.{worthLimit, runningLimit, contractsLimit, priceLimit}
 use Rattle.model.specs.DayFile.{classCount, seriesCount, seriesType, multiplier, closing, theoretical, underlying, projected, isCall, isPut, isFuture}
 use Rattle.model.specs.Steps.Positions.{openNet, exercisedNet}
-use Rattle.model.specs.Steps.Classes.{ofClass, worth, turned}
+use Rattle.model.specs.Steps.Classes.{ofClass, worth, signedByType}
 use Rattle.model.specs.Steps.Spread.{spreadQuantity, shortBefore, longBefore, nonSpread}
 use Rattle.model.specs.Steps.Points.{openChange, exercisedChange, countedNet, pointOf, classPoint}
 use Rattle.model.proofs.Accepted.{DayRows}
 use Rattle.model.proofs.Limits.{class-price, series-price, closing-limit}
-use Rattle.model.proofs.Bounds.{turned-abs, counted-bound, point-so-far}
+use Rattle.model.proofs.Bounds.{by-type-abs, counted-bound, point-so-far}
 use Rattle.classes.specs.Tables.{entry, Given}
 use Rattle.classes.specs.Range.{Range, sum-start, sum-turn, sum-end}
 use Rattle.classes.specs.Sizes.{contracts-size}
 use Rattle.spread.specs.Sides.{nonSpreadOf}
-use Rattle.points.specs.Added.{changeAmount, addedAt, added, added-none, added-size}
+use Rattle.accumulator.specs.Added.{changeAmount, addedAt, added, added-none, added-size}
 
 neg-mul : (x y : ℤ) → negℤ x *ℤ y ≡ x *ℤ negℤ y
 neg-mul (pos zero) y = zero-*ℤ y ∙ sym (zero-*ℤ (negℤ y))
@@ -34,8 +35,8 @@ neg-mul (negsuc a) (pos (suc b)) = refl
 neg-mul (negsuc a) (negsuc b) = refl
 
 -- a put's sign may stand at the contracts
-turned-mul : (t : ℕ) (x y : ℤ) → turned t x *ℤ y ≡ x *ℤ turned t y
-turned-mul t x y = by (isCall t) (isPut t)
+by-type-mul : (t : ℕ) (x y : ℤ) → signedByType t x *ℤ y ≡ x *ℤ signedByType t y
+by-type-mul t x y = by (isCall t) (isPut t)
   where
     by : (a b : Bool) → cond a x (cond b (negℤ x) (pos 0)) *ℤ y ≡ x *ℤ cond a y (cond b (negℤ y) (pos 0))
     by true b = refl
@@ -47,14 +48,14 @@ abbrev pub openAdded : List ℕ → ℕ → List ℤ → ℤ → List ℤ
 openAdded d s at net = added at (net *ℤ pos (multiplier d s)) (closing d s) (tabulate 10 (theoretical d s))
 
 abbrev pub exercisedAdded : List ℕ → ℕ → ℕ → List ℤ → ℤ → List ℤ
-exercisedAdded d c s at net = added at (turned (seriesType d s) (net *ℤ pos (multiplier d s))) (underlying d c) (tabulate 10 (projected d c))
+exercisedAdded d c s at net = added at (signedByType (seriesType d s) (net *ℤ pos (multiplier d s))) (underlying d c) (tabulate 10 (projected d c))
 
 module _ (d : List ℕ) (s : ℕ) (net : ℤ) where
-  pub contracts-small : natAbs net * multiplier d s ≤ 2560000000 → natAbs (net *ℤ pos (multiplier d s)) ≤ 2560000000
+  pub contracts-small : natAbs net * multiplier d s ≤ contractsLimit → natAbs (net *ℤ pos (multiplier d s)) ≤ contractsLimit
   contracts-small h = omega (arith, natAbs-* net (pos (multiplier d s)))
 
-  pub turned-small : (t : ℕ) → natAbs net * multiplier d s ≤ 2560000000 → natAbs (turned t (net *ℤ pos (multiplier d s))) ≤ 2560000000
-  turned-small t h = omega (arith, turned-abs t (net *ℤ pos (multiplier d s)), contracts-small h)
+  pub by-type-small : (t : ℕ) → natAbs net * multiplier d s ≤ contractsLimit → natAbs (signedByType t (net *ℤ pos (multiplier d s))) ≤ contractsLimit
+  by-type-small t h = omega (arith, by-type-abs t (net *ℤ pos (multiplier d s)), contracts-small h)
 
   -- no net adds none
   no-contracts : natAbs net ≤ 0 → natAbs (net *ℤ pos (multiplier d s)) ≤ 0
@@ -65,8 +66,8 @@ module _ (d : List ℕ) (s : ℕ) (net : ℤ) where
 
   pub exercised-none : (c : ℕ) (at : List ℤ) → natAbs net ≤ 0 → length at ≡ 10 → at ≡ exercisedAdded d c s at net
   exercised-none c at h l =
-      added-none (turned (seriesType d s) (net *ℤ pos (multiplier d s))) at (underlying d c) (tabulate 10 (projected d c))
-      (omega (arith, turned-abs (seriesType d s) (net *ℤ pos (multiplier d s)), no-contracts h)) l
+      added-none (signedByType (seriesType d s) (net *ℤ pos (multiplier d s))) at (underlying d c) (tabulate 10 (projected d c))
+      (omega (arith, by-type-abs (seriesType d s) (net *ℤ pos (multiplier d s)), no-contracts h)) l
 
 -- the two positions of a series, one after the other
 module _ (d : List ℕ) (n : ℕ → ℤ) (k c s : ℕ) (at : List ℤ) where
@@ -84,8 +85,8 @@ module _ (d : List ℕ) (n : ℕ → ℤ) (k c s : ℕ) (at : List ℤ) where
       (λ i.
       (getD-tabulate 10 (addedAt at z (closing d s) (tabulate 10 (theoretical d s))) j (pos 0) h
       ∙ ap (λ (p : ℕ). getD at j (pos 0) +ℤ changeAmount z (closing d s) p) (getD-tabulate 10 (theoretical d s) j 0 h)) i
-      +ℤ (ap (changeAmount (turned (seriesType d s) x) (underlying d c)) (getD-tabulate 10 (projected d c) j 0 h)
-      ∙ turned-mul (seriesType d s) x (pos (projected d c j) -ℤ pos (underlying d c))) i)
+      +ℤ (ap (changeAmount (signedByType (seriesType d s) x) (underlying d c)) (getD-tabulate 10 (projected d c) j 0 h)
+      ∙ by-type-mul (seriesType d s) x (pos (projected d c j) -ℤ pos (underlying d c))) i)
       ∙ +ℤ-assoc (getD at j (pos 0)) (worth d s (countedNet d n k c s) (openChange d s j)) (worth d s (exercisedNet n k s) (exercisedChange d c s j)))
 
 -- ---- the net that counts
@@ -97,7 +98,7 @@ unfolding countedNet nonSpread
 counted d n k c s = refl
 
 module _ (d : List ℕ) (nets : List ℤ) (w : Given d nets) (k c s : ℕ) (hk : k < 2) (hc : c < classCount d) (hs : s < seriesCount d) where
-  pub counted-size : natAbs (countedNet d (entry nets) k c s) * multiplier d s ≤ 2560000000
+  pub counted-size : natAbs (countedNet d (entry nets) k c s) * multiplier d s ≤ contractsLimit
   counted-size =
       le-trans (mul-le-mul (counted-bound d (entry nets) (w .dvp) (w .day .rows) (w .budget) k hk c hc s) (le-refl (multiplier d s)))
       (contracts-size d nets w k 0 s hk (omega arith) hs)
@@ -127,7 +128,7 @@ module _ (d : List ℕ) (n : ℕ → ℤ) (k c a b : ℕ) (r : Range d c a b) wh
       ∙ tabulate-ext 10 _ _ (λ j h. sum-end d c a b r (ofClass d c) (λ s. true) (λ s e. e) (λ s e. e) (pointOf d n k c j))
 
 pub points-size : (d : List ℕ) (nets : List ℤ) → Given d nets → (k c m : ℕ) → k < 2 → c < classCount d → m ≤ seriesCount d
-    → (j : ℕ) → j < 10 → natAbs (getD (pointsTo d (entry nets) k c m) j (pos 0)) ≤ 1280000000000000000
+    → (j : ℕ) → j < 10 → natAbs (getD (pointsTo d (entry nets) k c m) j (pos 0)) ≤ worthLimit
 points-size d nets w k c m hk hc hm j h =
     rw (getD-tabulate 10 (λ j. sumWhere m (ofClass d c) (pointOf d (entry nets) k c j)) j (pos 0) h)
     (point-so-far d (entry nets) (w .dvp) (w .day .rows) (w .budget) k c m hk hc hm j h)
@@ -135,17 +136,17 @@ points-size d nets w k c m hk hc hm j h =
 -- ---- prices are within their limit
 
 module _ (d : List ℕ) (r : DayRows d) where
-  pub theoretical-limit : (s : ℕ) → s < seriesCount d → (j : ℕ) → j < 10 → getD (tabulate 10 (theoretical d s)) j 0 ≤ 500000000
+  pub theoretical-limit : (s : ℕ) → s < seriesCount d → (j : ℕ) → j < 10 → getD (tabulate 10 (theoretical d s)) j 0 ≤ priceLimit
   theoretical-limit s h j l =
       rw (getD-tabulate 10 (theoretical d s) j 0 l) (series-price d r s h (4 + j) (omega arith) (λ z. omega arith) (λ z. omega arith))
 
-  pub projected-limit : (c : ℕ) → c < classCount d → (j : ℕ) → j < 10 → getD (tabulate 10 (projected d c)) j 0 ≤ 500000000
+  pub projected-limit : (c : ℕ) → c < classCount d → (j : ℕ) → j < 10 → getD (tabulate 10 (projected d c)) j 0 ≤ priceLimit
   projected-limit c h j l =
       rw (getD-tabulate 10 (projected d c) j 0 l) (class-price d r c h (10 + j) (omega arith) (λ z. omega arith) (λ z. omega arith))
 
   -- the amounts after the open position
-  pub opened-size : (s : ℕ) (at : List ℤ) (net : ℤ) → s < seriesCount d → natAbs net * multiplier d s ≤ 2560000000
-      → ((j : ℕ) → j < 10 → natAbs (getD at j (pos 0)) ≤ 1280000000000000000)
-      → (j : ℕ) → j < 10 → natAbs (getD (openAdded d s at net) j (pos 0)) ≤ 4000000000000000000
+  pub opened-size : (s : ℕ) (at : List ℤ) (net : ℤ) → s < seriesCount d → natAbs net * multiplier d s ≤ contractsLimit
+      → ((j : ℕ) → j < 10 → natAbs (getD at j (pos 0)) ≤ worthLimit)
+      → (j : ℕ) → j < 10 → natAbs (getD (openAdded d s at net) j (pos 0)) ≤ runningLimit
   opened-size s at net h q a =
       added-size at (net *ℤ pos (multiplier d s)) (closing d s) (tabulate 10 (theoretical d s)) (contracts-small d s net q) (closing-limit d r s h) (theoretical-limit s h) a

@@ -6,8 +6,8 @@ ghost use Rattle.model.specs.Steps.Spread.{spreadQuantity};
 ghost use Rattle.model.specs.Steps.Points.{classPoint};
 ghost use Rattle.classes.specs.Tables.{entry, Given};
 ghost use Rattle.classes.specs.Range.{Range};
-use crate::accumulator::Points;
 use crate::series;
+use accumulator::Points;
 use spread::sides::Sides;
 
 // The spread quantity is taken from the earliest expiry on: `before` has what the futures before s have taken of it.

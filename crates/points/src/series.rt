@@ -6,15 +6,15 @@ ghost use lib.IntN.{pos, natAbs, _+ℤ_, _*ℤ_};
 ghost use lib.ListN.{getD};
 ghost use Rattle.numbers.specs.Table.{tabulate};
 ghost use Rattle.model.specs.DayFile.{classCount, seriesCount, seriesType, isFuture, multiplier, closing, theoretical, underlying, projected};
-ghost use Rattle.model.specs.Steps.Classes.{turned};
+ghost use Rattle.model.specs.Steps.Classes.{signedByType};
 ghost use Rattle.model.specs.Steps.Spread.{spreadQuantity, shortBefore, longBefore};
 ghost use Rattle.model.specs.Steps.Points.{pointOf};
-ghost use Rattle.classes.specs.Limits.{contractsLimit, runningLimit, worthLimit};
+ghost use Rattle.model.specs.Limits.{contractsLimit, runningLimit, worthLimit};
 ghost use Rattle.classes.specs.Tables.{entry, Day, Given};
 ghost use Rattle.spread.specs.Sides.{nonSpreadOf};
 ghost use Rattle.points.specs.Series.{openAdded, exercisedAdded};
-use crate::accumulator::Points;
-use crate::accumulator::Position;
+use accumulator::Points;
+use accumulator::Position;
 use classes::positions::position_amount;
 use classes::prices;
 use classes::worth;
@@ -38,11 +38,14 @@ fn open_position(day: &[u32], s: usize, net: i64) -> Position
 fn exercised_position(day: &[u32], c: usize, s: usize, net: i64) -> Position
     requires { ⌜ Day (now day) ⌝ }
     requires { ⌜ (c < classCount (now day)) × (s < seriesCount (now day)) × (natAbs net * multiplier (now day) s ≤ contractsLimit) ⌝ }
-    ensures { λ r. ⌜ (r .contracts ≡ turned (seriesType (now (day .entry)) s) (net *ℤ pos (multiplier (now (day .entry)) s))) × (r .base ≡ underlying (now (day .entry)) c) × (r .prices ≡ tabulate 10 (projected (now (day .entry)) c)) ⌝ }
+    ensures { λ r. ⌜ (r .contracts ≡ signedByType (seriesType (now (day .entry)) s) (net *ℤ pos (multiplier (now (day .entry)) s))) × (r .base ≡ underlying (now (day .entry)) c) × (r .prices ≡ tabulate 10 (projected (now (day .entry)) c)) ⌝ }
 {
     let prices = prices::projected_prices(day, c);
     Position {
-        contracts: worth::turned(day_file::series_type(day, s), worth::contracts(day, s, net)),
+        contracts: worth::signed_by_type(
+            day_file::series_type(day, s),
+            worth::contracts(day, s, net),
+        ),
         base: day_file::underlying(day, c),
         prices: prices,
     }
@@ -54,7 +57,7 @@ fn counted_net(day: &[u32], s: usize, net: i64, quantity: i64, before: Sides) ->
     requires { ⌜ (s < seriesCount (now day)) × (natAbs quantity ≤ contractsLimit) × (natAbs (before .short) ≤ contractsLimit) × (natAbs (before .long) ≤ contractsLimit) × (natAbs net ≤ contractsLimit) ⌝ }
     ensures { λ r. ⌜ r ≡ cond (isFuture (seriesType (now (day .entry)) s)) (nonSpreadOf quantity (before .short) (before .long) net) net ⌝ }
 {
-    if day_file::series_type(day, s) != 1 {
+    if !day_file::is_future(day_file::series_type(day, s)) {
         return net;
     }
     spread::left::non_spread(quantity, before, net)

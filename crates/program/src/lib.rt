@@ -14,15 +14,21 @@ use model::BytesFault;
 use model::Check;
 
 // The answer for two files, each opened or not, and the bytes of the report over a memory of zeros.
-fn answer_files(first: bool, day: &[u8], second: bool, batch: &[u8], memory: &mut [u8]) -> Answer
+fn answer_files(
+    day_opened: bool,
+    day: &[u8],
+    batch_opened: bool,
+    batch: &[u8],
+    memory: &mut [u8],
+) -> Answer
     requires { ⌜ now memory ≡ replicate 4460 0 ⌝ }
-    ensures { λ r. ⌜ r ≡ filesAnswer first (now (day .entry)) second (now (batch .entry)) ⌝ }
+    ensures { λ r. ⌜ r ≡ filesAnswer «day_opened» (now (day .entry)) «batch_opened» (now (batch .entry)) ⌝ }
     ensures { λ r. ⌜ now (memory .exit) ≡ writtenBytes r (reportOf (wordsOf (now (day .entry))) (wordsOf (now (batch .entry)))) (replicate 4460 0) ⌝ }
 {
-    if !first {
+    if !day_opened {
         return Answer::Refused(Check::Bytes(BytesFault::DayFile, 0));
     }
-    if !second {
+    if !batch_opened {
         if mars::bad_bytes(day, 4865) {
             return Answer::Refused(Check::Bytes(BytesFault::DayFile, 0));
         }
@@ -33,9 +39,9 @@ fn answer_files(first: bool, day: &[u8], second: bool, batch: &[u8], memory: &mu
 
 // The text, by way of lent memories for the report's bytes and words.
 fn print_through(
-    first: bool,
+    day_opened: bool,
     day: &[u8],
-    second: bool,
+    batch_opened: bool,
     batch: &[u8],
     memory: &mut [u8],
     words: &mut [u32],
@@ -44,25 +50,39 @@ fn print_through(
     requires { ⌜ now memory ≡ replicate 4460 0 ⌝ }
     requires { ⌜ length (now words) ≡ 1115 ⌝ }
     requires { ⌜ longestText ≤ length (now out) ⌝ }
-    ensures { λ r. ⌜ (r ≡ length (programText first (now (day .entry)) second (now (batch .entry)))) × (now (out .exit) ≡ put 0 (programText first (now (day .entry)) second (now (batch .entry))) (now (out .entry))) ⌝ }
+    ensures { λ r. ⌜ (r ≡ length (programText «day_opened» (now (day .entry)) «batch_opened» (now (batch .entry)))) × (now (out .exit) ≡ put 0 (programText «day_opened» (now (day .entry)) «batch_opened» (now (batch .entry))) (now (out .entry))) ⌝ }
     ensures { λ r. ⌜ Counts r (now (out .exit)) ⌝ }
-    ensures { λ _. ⌜ now (memory .exit) ≡ writtenBytes (filesAnswer first (now (day .entry)) second (now (batch .entry))) (reportOf (wordsOf (now (day .entry))) (wordsOf (now (batch .entry)))) (replicate 4460 0) ⌝ }
+    ensures { λ _. ⌜ now (memory .exit) ≡ writtenBytes (filesAnswer «day_opened» (now (day .entry)) «batch_opened» (now (batch .entry))) (reportOf (wordsOf (now (day .entry))) (wordsOf (now (batch .entry)))) (replicate 4460 0) ⌝ }
     ensures { λ _. ⌜ now (words .exit) ≡ put 0 (wordsOf (now (memory .exit))) (now (words .entry)) ⌝ }
 {
-    let answer = answer_files(first, day, second, batch, memory);
+    let answer = answer_files(day_opened, day, batch_opened, batch, memory);
     byte_words::decode(memory, words);
     text::lines::write_answer(answer, words, out)
 }
 
 // The text at the front of the buffer; its length.
-pub fn print_files(first: bool, day: &[u8], second: bool, batch: &[u8], out: &mut [u8]) -> usize
+pub fn print_files(
+    day_opened: bool,
+    day: &[u8],
+    batch_opened: bool,
+    batch: &[u8],
+    out: &mut [u8],
+) -> usize
     requires { ⌜ longestText ≤ length (now out) ⌝ }
-    ensures { λ r. ⌜ (r ≡ length (programText first (now (day .entry)) second (now (batch .entry)))) × (now (out .exit) ≡ put 0 (programText first (now (day .entry)) second (now (batch .entry))) (now (out .entry))) ⌝ }
+    ensures { λ r. ⌜ (r ≡ length (programText «day_opened» (now (day .entry)) «batch_opened» (now (batch .entry)))) × (now (out .exit) ≡ put 0 (programText «day_opened» (now (day .entry)) «batch_opened» (now (batch .entry))) (now (out .entry))) ⌝ }
     ensures { λ r. ⌜ Counts r (now (out .exit)) ⌝ }
 {
     let mut memory = [0u8; 4460];
     let mut words = [0u32; 1115];
-    print_through(first, day, second, batch, &mut memory, &mut words, out)
+    print_through(
+        day_opened,
+        day,
+        batch_opened,
+        batch,
+        &mut memory,
+        &mut words,
+        out,
+    )
 }
 
 // The same of two files of words and a memory of any length.

@@ -1,7 +1,7 @@
 // The call over words: the report of a day file and a batch, written into a lent memory.
-pub mod book;
-pub mod maps;
-pub mod whole;
+mod book;
+mod maps;
+mod whole;
 
 ghost use mathlib.Core.Path.{_≡_};
 ghost use lib.ListN.{length};

@@ -59,8 +59,8 @@ fn write_report(
     ensures { λ _. ⌜ now (memory .exit) ≡ put 0 (reportWords (now (day .entry)) (entry (now (nets .entry))) (entry (now (dvps .entry)))) (now (memory .entry)) ⌝ }
 {
     write_maps(memory, count, ordinary, fail);
-    let owed = write_book(day, starts, nets, dvps, 0, ordinary, memory, 3);
-    let failed = write_book(
+    let ordinary_total = write_book(day, starts, nets, dvps, 0, ordinary, memory, 3);
+    let fail_total = write_book(
         day,
         starts,
         nets,
@@ -70,7 +70,11 @@ fn write_report(
         memory,
         3 + 19 * index(u32::count_ones(ordinary)),
     );
-    let totals = [owed, failed, amounts::add(owed, failed)];
+    let totals = [
+        ordinary_total,
+        fail_total,
+        amounts::add(ordinary_total, fail_total),
+    ];
     write_headed_at(memory, 3 + 19 * index(count), 7, 0, &totals);
 }
 

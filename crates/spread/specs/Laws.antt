@@ -2,7 +2,7 @@
 use mathlib.Core.Path.{_≡_, refl, sym, ap, _∙_}
 use mathlib.Core.Bool.{Bool, true, false}
 use mathlib.Core.List.{List}
-use Prim.Native.Nat.{ℕ, _+_, _≤_, _<_, _^_}
+use Prim.Native.Nat.{ℕ, _*_, _+_, _≤_, _<_, _^_}
 use native.Mathlib.Nat.{le-refl}
 use native.Mathlib.Omega.{arith}
 use lib.IntN.{ℤ, pos, natAbs, _+ℤ_, _-ℤ_, _*ℤ_}
@@ -12,6 +12,7 @@ use Rattle.numbers.specs.declared.Found.the-variants.{At, Nothing}
 use Rattle.numbers.specs.Abs.{cond-ind, natAbs-+, natAbs--, natAbs-*-le}
 use Rattle.numbers.specs.Extremes.{minZ, maxZ, absZ, max-zero-abs}
 use Rattle.numbers.specs.Scan.{firstBad, first-more, first-hit, first-at}
+use Rattle.model.specs.Limits.{worthLimit, contractsLimit, priceLimit}
 use Rattle.model.specs.DayFile.{seriesCount, classCount, seriesType, isFuture, spotRate, nonSpotRate}
 use Rattle.model.specs.Steps.Positions.{openNet}
 use Rattle.model.specs.Steps.Classes.{ofClass}
@@ -83,28 +84,28 @@ pub min-size : (x y : ℤ) (m : ℕ) → natAbs x ≤ m → natAbs y ≤ m → n
 min-size x y m p q = cond-ind (ltZ x y) x y (λ z. natAbs z ≤ m) (λ t. p) (λ t. q)
 
 module _ (d : List ℕ) (nets : List ℤ) (w : Given d nets) (k c : ℕ) (hk : k < 2) (hc : c < classCount d) where
-  pub short-size : (m : ℕ) → m ≤ seriesCount d → natAbs (shortBefore d (entry nets) k c m) ≤ 2560000000
+  pub short-size : (m : ℕ) → m ≤ seriesCount d → natAbs (shortBefore d (entry nets) k c m) ≤ contractsLimit
   short-size m h = short-so-far d (entry nets) (w .dvp) (w .day .rows) (w .budget) k c m hk hc h
 
-  pub long-size : (m : ℕ) → m ≤ seriesCount d → natAbs (longBefore d (entry nets) k c m) ≤ 2560000000
+  pub long-size : (m : ℕ) → m ≤ seriesCount d → natAbs (longBefore d (entry nets) k c m) ≤ contractsLimit
   long-size m h = long-so-far d (entry nets) (w .dvp) (w .day .rows) (w .budget) k c m hk hc h
 
-  pub total-short-size : natAbs (totalShort d (entry nets) k c) ≤ 2560000000
+  pub total-short-size : natAbs (totalShort d (entry nets) k c) ≤ contractsLimit
   unfolding totalShort shortBefore
   total-short-size = short-size (seriesCount d) (le-refl (seriesCount d))
 
-  pub total-long-size : natAbs (totalLong d (entry nets) k c) ≤ 2560000000
+  pub total-long-size : natAbs (totalLong d (entry nets) k c) ≤ contractsLimit
   unfolding totalLong longBefore
   total-long-size = long-size (seriesCount d) (le-refl (seriesCount d))
 
-  pub quantity-size : natAbs (spreadQuantity d (entry nets) k c) ≤ 2560000000
-  quantity-size = min-size (totalLong d (entry nets) k c) (totalShort d (entry nets) k c) 2560000000 total-long-size total-short-size
+  pub quantity-size : natAbs (spreadQuantity d (entry nets) k c) ≤ contractsLimit
+  quantity-size = min-size (totalLong d (entry nets) k c) (totalShort d (entry nets) k c) contractsLimit total-long-size total-short-size
 
-  pub spot-size : natAbs (spotSize d (entry nets) k c) ≤ 2560000000
+  pub spot-size : natAbs (spotSize d (entry nets) k c) ≤ contractsLimit
   unfolding spotSize
   spot-size = by (firstBad (heldFuture d (entry nets) k c) (seriesCount d)) refl
     where
-      by : (f : Found) → firstBad (heldFuture d (entry nets) k c) (seriesCount d) ≡ f → natAbs (sizeAt d (entry nets) k f) ≤ 2560000000
+      by : (f : Found) → firstBad (heldFuture d (entry nets) k c) (seriesCount d) ≡ f → natAbs (sizeAt d (entry nets) k f) ≤ contractsLimit
       by (At s) e = net-size d nets w k 0 s hk (omega arith) (first-at (heldFuture d (entry nets) k c) (seriesCount d) s e .0)
       by Nothing e = omega arith
 
@@ -115,34 +116,34 @@ spread-parts d n k c = refl
 
 -- ---- the sizes on the way to a spread margin: e the spot, q the quantity
 
-module _ (e q : ℤ) (r₁ r₂ : ℕ) (he : natAbs e ≤ 2560000000) (hq : natAbs q ≤ 2560000000) (h₁ : r₁ ≤ 500000000) (h₂ : r₂ ≤ 500000000) where
-  pub near-size : natAbs (minZ e q) ≤ 2560000000
-  near-size = min-size e q 2560000000 he hq
+module _ (e q : ℤ) (r₁ r₂ : ℕ) (he : natAbs e ≤ contractsLimit) (hq : natAbs q ≤ contractsLimit) (h₁ : r₁ ≤ priceLimit) (h₂ : r₂ ≤ priceLimit) where
+  pub near-size : natAbs (minZ e q) ≤ contractsLimit
+  near-size = min-size e q contractsLimit he hq
 
-  pub twice-size : natAbs (pos 2 *ℤ q) ≤ 5120000000
-  twice-size = natAbs-*-le (pos 2) q 2 2560000000 (omega arith) hq
+  pub twice-size : natAbs (pos 2 *ℤ q) ≤ 2 * contractsLimit
+  twice-size = natAbs-*-le (pos 2) q 2 contractsLimit (omega arith) hq
 
-  pub far-size : natAbs (pos 2 *ℤ q -ℤ minZ e q) ≤ 7680000000
+  pub far-size : natAbs (pos 2 *ℤ q -ℤ minZ e q) ≤ 3 * contractsLimit
   far-size = omega (arith, natAbs-- (pos 2 *ℤ q) (minZ e q), near-size, twice-size)
 
-  pub near-margin : natAbs (minZ e q *ℤ pos r₁) ≤ 1280000000000000000
-  near-margin = natAbs-*-le (minZ e q) (pos r₁) 2560000000 500000000 near-size h₁
+  pub near-margin : natAbs (minZ e q *ℤ pos r₁) ≤ worthLimit
+  near-margin = natAbs-*-le (minZ e q) (pos r₁) contractsLimit priceLimit near-size h₁
 
-  pub far-margin : natAbs ((pos 2 *ℤ q -ℤ minZ e q) *ℤ pos r₂) ≤ 3840000000000000000
-  far-margin = natAbs-*-le (pos 2 *ℤ q -ℤ minZ e q) (pos r₂) 7680000000 500000000 far-size h₂
+  pub far-margin : natAbs ((pos 2 *ℤ q -ℤ minZ e q) *ℤ pos r₂) ≤ 3 * worthLimit
+  far-margin = natAbs-*-le (pos 2 *ℤ q -ℤ minZ e q) (pos r₂) (3 * contractsLimit) priceLimit far-size h₂
 
   pub spread-fits : natAbs (spreadAmount e q r₁ r₂) < 2 ^ 63
   spread-fits = omega (arith, natAbs-+ (minZ e q *ℤ pos r₁) ((pos 2 *ℤ q -ℤ minZ e q) *ℤ pos r₂), near-margin, far-margin)
 
 -- ---- and to what is left of a side
 
-module _ (q before size : ℤ) (hq : natAbs q ≤ 2560000000) (hb : natAbs before ≤ 2560000000) (hs : natAbs size ≤ 2560000000) where
-  pub rest-size : natAbs (q -ℤ before) ≤ 5120000000
+module _ (q before size : ℤ) (hq : natAbs q ≤ contractsLimit) (hb : natAbs before ≤ contractsLimit) (hs : natAbs size ≤ contractsLimit) where
+  pub rest-size : natAbs (q -ℤ before) ≤ 2 * contractsLimit
   rest-size = omega (arith, natAbs-- q before, hq, hb)
 
-  taken-size : natAbs (minZ size (maxZ (q -ℤ before) (pos 0))) ≤ 5120000000
-  taken-size = min-size size (maxZ (q -ℤ before) (pos 0)) 5120000000 (omega arith) (omega (arith, max-zero-abs (q -ℤ before), rest-size))
+  taken-size : natAbs (minZ size (maxZ (q -ℤ before) (pos 0))) ≤ 2 * contractsLimit
+  taken-size = min-size size (maxZ (q -ℤ before) (pos 0)) (2 * contractsLimit) (omega arith) (omega (arith, max-zero-abs (q -ℤ before), rest-size))
 
-  pub left-size : natAbs (leftOver q before size) ≤ 7680000000
+  pub left-size : natAbs (leftOver q before size) ≤ 3 * contractsLimit
   unfolding leftOver
   left-size = omega (arith, natAbs-- size (minZ size (maxZ (q -ℤ before) (pos 0))), taken-size, hs)

@@ -3,7 +3,7 @@ ghost use mathlib.Core.Path.{_≡_};
 ghost use Prim.Native.Nat.{_≤_, _<_};
 ghost use lib.IntN.{natAbs};
 ghost use Rattle.model.specs.Steps.Spread.{spreadQuantity, spread as spreadOf};
-ghost use Rattle.classes.specs.Limits.{contractsLimit, priceLimit};
+ghost use Rattle.model.specs.Limits.{contractsLimit, priceLimit};
 ghost use Rattle.classes.specs.Tables.{entry, Given};
 ghost use Rattle.classes.specs.Range.{Range};
 ghost use Rattle.spread.specs.Sides.{spreadAmount};

@@ -3,7 +3,7 @@ ghost use mathlib.Core.Path.{_≡_};
 ghost use Prim.Native.Nat.{_≤_};
 ghost use lib.IntN.{natAbs};
 ghost use Rattle.model.specs.Steps.Spread.{leftOver};
-ghost use Rattle.classes.specs.Limits.{contractsLimit};
+ghost use Rattle.model.specs.Limits.{contractsLimit};
 ghost use Rattle.spread.specs.Sides.{nonSpreadOf};
 use crate::sides;
 use crate::sides::Sides;

@@ -2,4 +2,4 @@
 pub mod amount;
 pub mod left;
 pub mod sides;
-pub mod spot;
+mod spot;

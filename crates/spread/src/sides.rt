@@ -4,7 +4,7 @@ ghost use Prim.Native.Nat.{_≤_, _<_, _^_};
 ghost use lib.IntN.{pos, natAbs, _+ℤ_};
 ghost use Rattle.model.specs.DayFile.{seriesCount};
 ghost use Rattle.model.specs.Steps.Spread.{shortSide, longSide, totalShort, totalLong};
-ghost use Rattle.classes.specs.Limits.{contractsLimit};
+ghost use Rattle.model.specs.Limits.{contractsLimit};
 ghost use Rattle.classes.specs.Tables.{entry, Given};
 ghost use Rattle.classes.specs.Range.{Range};
 ghost use Rattle.spread.specs.Sides.{futureShort, futureLong};
@@ -16,13 +16,13 @@ pub struct Sides {
     pub long: i64,
 }
 
-pub fn short_side(z: i64) -> i64
+pub(crate) fn short_side(z: i64) -> i64
     ensures { λ r. ⌜ r ≡ shortSide z ⌝ }
 {
     amounts::larger(z, 0)
 }
 
-pub fn long_side(z: i64) -> i64
+pub(crate) fn long_side(z: i64) -> i64
     requires { ⌜ natAbs z < 2 ^ 63 ⌝ }
     ensures { λ r. ⌜ r ≡ longSide z ⌝ }
 {
@@ -43,7 +43,7 @@ impl Sides {
         requires { ⌜ (natAbs (self .short) ≤ contractsLimit) × (natAbs (self .long) ≤ contractsLimit) ⌝ }
         ensures { λ r. ⌜ (r .short ≡ self .short +ℤ futureShort (now (day .entry)) (entry (now (nets .entry))) book s) × (r .long ≡ self .long +ℤ futureLong (now (day .entry)) (entry (now (nets .entry))) book s) ⌝ }
     {
-        if day_file::series_type(day, s) != 1 {
+        if !day_file::is_future(day_file::series_type(day, s)) {
             return self;
         }
         let z = position_amount(nets, book, 0, s);

@@ -14,7 +14,7 @@ fn held_future(day: &[u32], nets: &[i64], book: usize, s: usize) -> bool
     requires { ⌜ (book < 2) × (s < seriesCount (now day)) ⌝ }
     ensures { λ r. ⌜ r ≡ heldHere (now (day .entry)) (entry (now (nets .entry))) book s ⌝ }
 {
-    if day_file::series_type(day, s) != 1 {
+    if !day_file::is_future(day_file::series_type(day, s)) {
         return false;
     }
     amounts::not_zero(position_amount(nets, book, 0, s))
@@ -30,7 +30,7 @@ pub fn spot_size(day: &[u32], nets: &[i64], book: usize, c: usize, a: usize, b: 
     let mut s = a;
     while s < b {
         if held_future(day, nets, book, s) {
-            return amounts::size(position_amount(nets, book, 0, s));
+            return amounts::absolute(position_amount(nets, book, 0, s));
         }
         s = s + 1;
     }

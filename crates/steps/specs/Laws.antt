@@ -8,6 +8,7 @@ use lib.IntN.{ℤ, pos, natAbs, _+ℤ_, _-ℤ_}
 use Rattle.numbers.specs.Abs.{natAbs-+, natAbs--, natAbs-pos-sub}
 use Rattle.numbers.specs.Budget.{sumN-at}
 use Rattle.numbers.specs.Sums.{sumWhere}
+use Rattle.model.specs.Limits.{worthLimit, priceLimit}
 use Rattle.model.specs.DayFile.{classCount, seriesCount, seriesType, closing, underlying, strike, isSecurity, isOption}
 use Rattle.model.specs.Netting.{position}
 use Rattle.model.specs.Steps.Positions.{openNet, openDvp, exercisedNet}
@@ -17,7 +18,7 @@ use Rattle.model.specs.Steps.Premium.{inTheMoney, premiumOf, premium}
 use Rattle.model.proofs.Accepted.{DayRows}
 use Rattle.model.proofs.Limits.{underlying-limit, series-price, closing-limit}
 use Rattle.model.proofs.Records.{Budget}
-use Rattle.model.proofs.Bounds.{worth-bound, turned-abs}
+use Rattle.model.proofs.Bounds.{worth-bound, by-type-abs}
 use Rattle.classes.specs.Tables.{entry, Given}
 use Rattle.classes.specs.Range.{Range, start, turn, finish}
 use Rattle.classes.specs.Sizes.{contracts-size}
@@ -72,15 +73,15 @@ module _ (d : List ℕ) (n v : ℕ → ℤ) (k c a b : ℕ) (r : Range d c a b) 
 -- ---- sizes
 
 pub money-size : (d : List ℕ) → DayRows d → (c s : ℕ) → c < classCount d → s < seriesCount d
-    → (natAbs (pos (underlying d c) -ℤ pos (strike d s)) ≤ 500000000) × (natAbs (inTheMoney d c s) ≤ 500000000)
+    → (natAbs (pos (underlying d c) -ℤ pos (strike d s)) ≤ priceLimit) × (natAbs (inTheMoney d c s) ≤ priceLimit)
 money-size d r c s hc hs =
-    let h = natAbs-pos-sub (underlying d c) (strike d s) 500000000 (underlying-limit d r c hc)
+    let h = natAbs-pos-sub (underlying d c) (strike d s) priceLimit (underlying-limit d r c hc)
     (series-price d r s hs 2 (omega arith) (λ z. omega arith) (λ z. omega arith)) in
-    (h, omega (arith, h, turned-abs (seriesType d s) (pos (underlying d c) -ℤ pos (strike d s))))
+    (h, omega (arith, h, by-type-abs (seriesType d s) (pos (underlying d c) -ℤ pos (strike d s))))
 
 module _ (d : List ℕ) (nets : List ℤ) (w : Given d nets) (k s : ℕ) (hk : k < 2) (hs : s < seriesCount d) where
   -- a position at a price
-  pub worth-size : (x : ℕ) (p : ℤ) → x < 2 → natAbs p ≤ 500000000 → natAbs (worth d s (entry nets (position k x s)) p) ≤ 1280000000000000000
+  pub worth-size : (x : ℕ) (p : ℤ) → x < 2 → natAbs p ≤ priceLimit → natAbs (worth d s (entry nets (position k x s)) p) ≤ worthLimit
   worth-size x p hx h = worth-bound d s (entry nets (position k x s)) p 256 (contracts-size d nets w k x s hk hx hs) h
 
   pub mtm-fits : (v : ℕ → ℤ) → Budget d (entry nets) v → natAbs (mtmOf d (entry nets) v k s) < 2 ^ 63

@@ -12,6 +12,7 @@ use lib.ListN.{set, replicate}
 use Rattle.numbers.specs.Extremes.{absZ}
 use Rattle.numbers.specs.Sums.{sumTo, sumWhere, sumTo-none, sumTo-more}
 use Rattle.numbers.specs.Table.{tabulate, tabulate-ext, tabulate-set, replicate-tabulate}
+use Rattle.model.specs.Limits.{contractsLimit}
 use Rattle.model.specs.DayFile.{classCount, seriesCount, seriesType}
 use Rattle.model.specs.Steps.Positions.{openNet}
 use Rattle.model.specs.Steps.Classes.{typeOf}
@@ -50,10 +51,10 @@ module _ (d : List ℕ) (n : ℕ → ℤ) (k c a b : ℕ) (r : Range d c a b) wh
       ∙ tabulate-ext 16 (typeTo d n k c b) _ (λ t h. finish d c a b r (λ s. eqb (seriesType d s) t) (openNet n k))
 
 module _ (d : List ℕ) (nets : List ℤ) (w : Given d nets) (k c : ℕ) (hk : k < 2) (hc : c < classCount d) where
-  pub type-size : (m t : ℕ) → m ≤ seriesCount d → natAbs (typeTo d (entry nets) k c m t) ≤ 2560000000
+  pub type-size : (m t : ℕ) → m ≤ seriesCount d → natAbs (typeTo d (entry nets) k c m t) ≤ contractsLimit
   type-size m t h = type-so-far d (entry nets) (w .dvp) (w .day .rows) (w .budget) k c m hk hc h t
 
-  pub net-of-type : (t : ℕ) → natAbs (typeNet d (entry nets) k c t) ≤ 2560000000
+  pub net-of-type : (t : ℕ) → natAbs (typeNet d (entry nets) k c t) ≤ contractsLimit
   unfolding typeNet
   net-of-type t = type-size (seriesCount d) t (le-refl (seriesCount d))
 

@@ -6,7 +6,7 @@ ghost use lib.ListN.{length};
 ghost use Rattle.numbers.specs.Extremes.{absZ};
 ghost use Rattle.numbers.specs.Table.{tabulate};
 ghost use Rattle.model.specs.Steps.Minimum.{minimumRate, typeNet, minimum as minimumOf};
-ghost use Rattle.classes.specs.Limits.{contractsLimit, priceLimit};
+ghost use Rattle.model.specs.Limits.{contractsLimit, priceLimit};
 ghost use Rattle.classes.specs.Tables.{entry, Given};
 ghost use Rattle.classes.specs.Range.{Range};
 use classes::positions::position_amount;
@@ -21,32 +21,32 @@ fn type_nets(day: &[u32], nets: &[i64], book: usize, c: usize, a: usize, b: usiz
     let mut sums = [0i64; 16];
     let mut s = a;
     while s < b {
-        let kind = words::index(day_file::series_type(day, s));
-        let was = sums[kind];
-        sums[kind] = amounts::add(was, position_amount(nets, book, 0, s));
+        let t = words::index(day_file::series_type(day, s));
+        let was = sums[t];
+        sums[t] = amounts::add(was, position_amount(nets, book, 0, s));
         s = s + 1;
     }
     sums
 }
 
 // The rate of a type: calls and puts both have the options rate.
-fn minimum_rate(day: &[u32], c: usize, kind: usize) -> u32
+fn minimum_rate(day: &[u32], c: usize, t: usize) -> u32
     requires { ⌜ 21 + 20 * c ≤ length (now day) ⌝ }
-    ensures { λ r. ⌜ r ≡ minimumRate (now (day .entry)) c kind ⌝ }
+    ensures { λ r. ⌜ r ≡ minimumRate (now (day .entry)) c t ⌝ }
 {
-    if kind == 1 {
+    if t == 1 {
         return day_file::future_rate(day, c);
     }
-    if kind == 2 {
+    if t == 2 {
         return day_file::option_rate(day, c);
     }
-    if kind == 3 {
+    if t == 3 {
         return day_file::option_rate(day, c);
     }
-    if kind == 4 {
+    if t == 4 {
         return day_file::equity_rate(day, c);
     }
-    if kind == 5 {
+    if t == 5 {
         return day_file::warrant_rate(day, c);
     }
     day_file::rights_rate(day, c)
@@ -57,7 +57,7 @@ fn type_minimum(net: i64, rate: u32) -> i64
     requires { ⌜ (natAbs net ≤ contractsLimit) × (rate ≤ priceLimit) ⌝ }
     ensures { λ r. ⌜ r ≡ absZ net *ℤ pos rate ⌝ }
 {
-    amounts::mul(amounts::size(net), amounts::signed(rate))
+    amounts::mul(amounts::absolute(net), amounts::signed(rate))
 }
 
 // Over types 1 to 6.

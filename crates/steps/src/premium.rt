@@ -18,7 +18,7 @@ fn in_the_money(day: &[u32], c: usize, s: usize) -> i64
 {
     let underlying = amounts::signed(day_file::underlying(day, c));
     let strike = amounts::signed(day_file::strike(day, s));
-    worth::turned(
+    worth::signed_by_type(
         day_file::series_type(day, s),
         amounts::sub(underlying, strike),
     )
@@ -36,8 +36,8 @@ fn series_premium(day: &[u32], nets: &[i64], book: usize, c: usize, s: usize) ->
     let net = position_amount(nets, book, 0, s);
     let price = amounts::signed(day_file::closing(day, s));
     let open = worth::worth(day, s, net, price);
-    let taken = position_amount(nets, book, 1, s);
-    let exercised = worth::worth(day, s, taken, in_the_money(day, c, s));
+    let exercised_net = position_amount(nets, book, 1, s);
+    let exercised = worth::worth(day, s, exercised_net, in_the_money(day, c, s));
     amounts::add(open, exercised)
 }
 

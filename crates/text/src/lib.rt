@@ -1,4 +1,4 @@
 // The text output library: the text of a report and of a refusal, written into a lent buffer.
-pub mod fields;
-pub mod heads;
+mod fields;
+mod heads;
 pub mod lines;

@@ -3,7 +3,7 @@ ghost use mathlib.Core.Path.{_≡_};
 ghost use Prim.Native.Nat.{_^_, _≤_, _<_};
 ghost use lib.IntN.{natAbs};
 ghost use lib.ListN.{getD};
-ghost use Rattle.model.specs.Words.{kind as kindOf, payload as payloadOf, bits as bitsOf, word as wordOf, badWord, badPrice, magnitude as magnitudeOf, negative as negativeOf, amount as amountOf, highWord, middleWord, lowWord, signBit};
+ghost use Rattle.model.specs.Words.{kind as kindOf, payload as payloadOf, bits as bitsOf, word as wordOf, badWord, magnitude as magnitudeOf, negative as negativeOf, amount as amountOf, highWord, middleWord, lowWord, signBit};
 
 // Word i of a run of words, 0 past its end.
 pub fn word_at(words: &[u32], i: usize) -> u32
@@ -57,13 +57,6 @@ pub fn bad_word(w: u32, k: u32, limit: u32) -> bool
     ensures { λ r. ⌜ r ≡ badWord w k limit ⌝ }
 {
     (kind(w) != k) | (limit < payload(w))
-}
-
-// A price or rate: kind 3, 0 to 500,000,000.
-pub fn bad_price(w: u32) -> bool
-    ensures { λ r. ⌜ r ≡ badPrice w ⌝ }
-{
-    bad_word(w, 3, 500000000)
 }
 
 pub fn wide(x: u32) -> u64

@@ -29,32 +29,18 @@ long c =
 loop-holds : tie.Need-loop-holds Inv-loop μ-loop
 loop-holds c = (omega arith, sym (put-none 0 (now (c .before .before .args .words))))
 
-word-of-requires : tie.Need-word-of-requires Inv-loop μ-loop
-word-of-requires c κs = search needs
-
-add-words : tie.Need-add-words Inv-loop μ-loop
-add-words c = search needs
-
-mul-words : tie.Need-mul-words Inv-loop μ-loop
-mul-words c = search needs
-
 slice-write-words : tie.Need-slice-write-words Inv-loop μ-loop
 slice-write-words c = let s = c .before .before .before .before .before in omega (arith, long (c .before .before), s .pre .0)
-
-add-i : tie.Need-add-i Inv-loop μ-loop
-add-i c = search needs
-
-loop-less : tie.Need-loop-less Inv-loop μ-loop
-loop-less c = search needs
 
 loop-again : tie.Need-loop-again Inv-loop μ-loop
 loop-again c =
     let l = c .before .before in
     let s = l .before .before .before in
     let b = now (s .args .bytes) in
-    let h : l .loop .i < length (wordsOf b) = omega (arith, words-length b) in (
+    let h : l .loop .i < length (wordsOf b) = omega (arith, words-length b) in
+    let z : l .loop .i ≡ 0 + l .loop .i = omega arith in (
       omega arith,
-      (λ j. set (l .loop .inv .1 j) (0 + l .loop .i) ((c .word-of .ensures ∙ sym (words-at b (l .loop .i) (omega arith))) j))
+      (λ j. set (l .loop .inv .1 j) (z j) ((c .word-of .ensures ∙ sym (words-at b (l .loop .i) (omega arith))) j))
           ∙ put-next 0 (l .loop .i) (wordsOf b) (now (s .args .words)) 0 h (omega (arith, words-length b, s .pre .0)),
     )
 
@@ -75,12 +61,11 @@ decode-spec =
     Inv-loop
     μ-loop
     loop-holds
-    word-of-requires
-    add-words
-    mul-words
+    (λ c κs. search needs)
+    (λ c. search needs)
     slice-write-words
-    add-i
-    loop-less
+    (λ c. search needs)
+    (λ c. search needs)
     loop-again
     same-length
     returns)

@@ -26,23 +26,8 @@ long c =
 loop-holds : tie.Need-loop-holds Inv-loop μ-loop
 loop-holds c = (omega arith, bytes-none (now (c .before .before .args .bytes)) (now (c .before .before .args .words)))
 
-mul-write-word : tie.Need-mul-write-word Inv-loop μ-loop
-mul-write-word c = search needs
-
-mul-write-word-2 : tie.Need-mul-write-word-2 Inv-loop μ-loop
-mul-write-word-2 c = search needs
-
-shared-slice-read-write-word : tie.Need-shared-slice-read-write-word Inv-loop μ-loop
-shared-slice-read-write-word c = search needs
-
 write-word-requires : tie.Need-write-word-requires Inv-loop μ-loop
 write-word-requires c κs = omega (arith, long (c .before .before .before), c .before .before .loop-test .taken, c .before .before .before .before .before .before .pre .0)
-
-add-i : tie.Need-add-i Inv-loop μ-loop
-add-i c = search needs
-
-loop-less : tie.Need-loop-less Inv-loop μ-loop
-loop-less c = search needs
 
 loop-again : tie.Need-loop-again Inv-loop μ-loop
 loop-again c =
@@ -70,12 +55,12 @@ encode-spec =
     Inv-loop
     μ-loop
     loop-holds
-    mul-write-word
-    mul-write-word-2
-    shared-slice-read-write-word
+    (λ c. search needs)
+    (λ c. search needs)
+    (λ c. search needs)
     write-word-requires
-    add-i
-    loop-less
+    (λ c. search needs)
+    (λ c. search needs)
     loop-again
     same-length
     returns)

@@ -16,9 +16,6 @@ abbrev μ-loop : tie.MeasureT-loop
 loop-holds : tie.Need-loop-holds Inv-loop μ-loop
 loop-holds c = (search needs, none-present (c .before .before .args .day .now))
 
-array-write-present : tie.Need-array-write-present Inv-loop μ-loop
-array-write-present c = search needs
-
 loop-again : tie.Need-loop-again Inv-loop μ-loop
 loop-again c =
     let l = c .before .before .loop in
@@ -39,7 +36,7 @@ present-numbers-spec =
     (λ c κs. search needs)
     loop-holds
     (λ c κs. search needs)
-    array-write-present
+    (λ c. search needs)
     (λ c. search needs)
     (λ c. search needs)
     loop-again

@@ -10,41 +10,11 @@ use Rattle.lines.specs.Amounts.{three-stores}
 use Rattle.lines.proofs.write_amount.Statement.{statement}
 use Rattle.lines.proofs.write_amount.Tie as tie
 
-high-word-requires : tie.Need-high-word-requires
-high-word-requires c κs = search needs
-
-mul-out : tie.Need-mul-out
-mul-out c = search needs
-
-slice-write-out : tie.Need-slice-write-out
-slice-write-out c = search needs
-
-middle-word-requires : tie.Need-middle-word-requires
-middle-word-requires c κs = search needs
-
-add-out : tie.Need-add-out
-add-out c = search needs
-
-mul-out-2 : tie.Need-mul-out-2
-mul-out-2 c = search needs
-
 slice-write-out-2 : tie.Need-slice-write-out-2
 slice-write-out-2 c = simp length-set (omega arith)
 
-low-word-requires : tie.Need-low-word-requires
-low-word-requires c κs = search needs
-
-add-out-2 : tie.Need-add-out-2
-add-out-2 c = search needs
-
-mul-out-3 : tie.Need-mul-out-3
-mul-out-3 c = search needs
-
 slice-write-out-3 : tie.Need-slice-write-out-3
 slice-write-out-3 c = simp length-set (omega arith)
-
-same-length : tie.Need-same-length
-same-length c = search needs
 
 returns : tie.Need-returns
 returns c =
@@ -59,16 +29,16 @@ pub write-amount-spec : {M : Type 1} → statement M
 write-amount-spec =
     tie.close
     (tie.spec
-    high-word-requires
-    mul-out
-    slice-write-out
-    middle-word-requires
-    add-out
-    mul-out-2
+    (λ c κs. search needs)
+    (λ c. search needs)
+    (λ c. search needs)
+    (λ c κs. search needs)
+    (λ c. search needs)
+    (λ c. search needs)
     slice-write-out-2
-    low-word-requires
-    add-out-2
-    mul-out-3
+    (λ c κs. search needs)
+    (λ c. search needs)
+    (λ c. search needs)
     slice-write-out-3
-    same-length
+    (λ c. search needs)
     returns)

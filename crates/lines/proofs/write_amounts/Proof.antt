@@ -22,18 +22,6 @@ abbrev μ-loop : tie.MeasureT-loop
 loop-holds : tie.Need-loop-holds Inv-loop μ-loop
 loop-holds c = (omega arith, amounts-none (now (c .before .args .out)) (c .before .args .at) (now (c .before .args .amounts)))
 
-mul-write-amount : tie.Need-mul-write-amount Inv-loop μ-loop
-mul-write-amount c = search needs
-
-add-write-amount : tie.Need-add-write-amount Inv-loop μ-loop
-add-write-amount c = search needs
-
-mul-write-amount-2 : tie.Need-mul-write-amount-2 Inv-loop μ-loop
-mul-write-amount-2 c = search needs
-
-shared-slice-copy-out-write-amount : tie.Need-shared-slice-copy-out-write-amount Inv-loop μ-loop
-shared-slice-copy-out-write-amount c = search needs
-
 write-amount-requires : tie.Need-write-amount-requires Inv-loop μ-loop
 write-amount-requires c κs =
     let l = c .before .before .before in
@@ -42,12 +30,6 @@ write-amount-requires c κs =
       omega (arith, ap length (l .loop .inv .1), amounts-length (now (s .args .out)) (s .args .at) (now (s .args .amounts)) (l .loop .i) (l .loop .inv .0) (s .pre .0)),
       rw (back {v = getD (now (s .args .amounts)) (l .loop .i) (pos 0)} refl small) small,
     )
-
-add-i : tie.Need-add-i Inv-loop μ-loop
-add-i c = search needs
-
-loop-less : tie.Need-loop-less Inv-loop μ-loop
-loop-less c = search needs
 
 loop-again : tie.Need-loop-again Inv-loop μ-loop
 loop-again c =
@@ -79,13 +61,13 @@ write-amounts-spec =
     Inv-loop
     μ-loop
     loop-holds
-    mul-write-amount
-    add-write-amount
-    mul-write-amount-2
-    shared-slice-copy-out-write-amount
+    (λ c. search needs)
+    (λ c. search needs)
+    (λ c. search needs)
+    (λ c. search needs)
     write-amount-requires
-    add-i
-    loop-less
+    (λ c. search needs)
+    (λ c. search needs)
     loop-again
     same-length
     returns)

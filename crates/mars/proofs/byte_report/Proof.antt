@@ -7,17 +7,11 @@ use borrow.Author.Needs.{needs}
 use Rattle.mars.proofs.byte_report.Statement.{statement}
 use Rattle.mars.proofs.byte_report.Tie as tie
 
-bad-bytes-requires : tie.Need-bad-bytes-requires
-bad-bytes-requires c κs = search needs
-
 returns : tie.Need-returns
 returns c =
     let s = c .before .before .before .before .before in
     let e = day-refused (now (s .args .day)) (now (s .args .batch)) (length (now (s .args .memory))) (sym (c .before .bad-bytes .ensures) ∙ c .if1 .taken) in
     (e, bytes-of (now (s .args .day)) (now (s .args .batch)) (now (s .args .memory)) _ e)
-
-bad-bytes-requires-2 : tie.Need-bad-bytes-requires-2
-bad-bytes-requires-2 c κs = search needs
 
 returns-2 : tie.Need-returns-2
 returns-2 c =
@@ -33,9 +27,6 @@ report-bytes-requires c κs =
     let q = sym (c .before .before .bad-bytes2 .ensures) ∙ c .before .if2 .left in
     (omega (arith, short-enough (now (s .args .day)) 4865 p), omega (arith, short-enough (now (s .args .batch)) 1537 q))
 
-same-length : tie.Need-same-length
-same-length c = search needs
-
 returns-3 : tie.Need-returns-3
 returns-3 c =
     let s = c .before .before .before .before .before .before .before .before .before .before .before in
@@ -49,10 +40,10 @@ pub byte-report-spec : {M : Type 1} → statement M
 byte-report-spec =
     tie.close
     (tie.spec
-    bad-bytes-requires
+    (λ c κs. search needs)
     returns
-    bad-bytes-requires-2
+    (λ c κs. search needs)
     returns-2
     report-bytes-requires
-    same-length
+    (λ c. search needs)
     returns-3)

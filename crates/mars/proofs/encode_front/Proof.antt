@@ -15,11 +15,5 @@ encode-requires c κs =
     let e = length-take-le (s .args .n) (now (s .args .words)) (s .pre .0) in
     (omega (arith, e, s .pre .1), omega (arith, e, s .pre .2))
 
-same-length : tie.Need-same-length
-same-length c = search needs
-
-returns : tie.Need-returns
-returns c = search needs
-
 pub encode-front-spec : {M : Type 1} → statement M
-encode-front-spec = tie.close (tie.spec slice-aggregate-encode encode-requires same-length returns)
+encode-front-spec = tie.close (tie.spec slice-aggregate-encode encode-requires (λ c. search needs) (λ c. search needs))

@@ -10,21 +10,6 @@ use borrow.Author.Needs.{needs}
 use Rattle.mars.proofs.mars_report.Statement.{statement}
 use Rattle.mars.proofs.mars_report.Tie as tie
 
-byte-report-requires : tie.Need-byte-report-requires
-byte-report-requires c κs = search needs
-
-status-requires : tie.Need-status-requires
-status-requires c κs = search needs
-
-wide-requires : tie.Need-wide-requires
-wide-requires c κs = search needs
-
-mul-result : tie.Need-mul-result
-mul-result c = search needs
-
-value-requires : tie.Need-value-requires
-value-requires c κs = search needs
-
 value-is : (c : tie.After-value) → c .value .result ≡ valueOf (byteAnswer (now (c .before .before .before .before .before .before .before .before .before .before .args .day)) (now (c .before .before .before .before .before .before .before .before .before .before .args .batch)) (length (now (c .before .before .before .before .before .before .before .before .before .before .args .report))))
 value-is c = c .value .ensures ∙ ap valueOf (c .before .before .before .before .before .byte-report .ensures .0)
 
@@ -32,9 +17,6 @@ add-result : tie.Need-add-result
 add-result c =
     let s = c .before .before .before .before .before .before .before .before .before .before .args in
     record { fits = omega (arith, value-is c, byte-value-small (now (s .day)) (now (s .batch)) (length (now (s .report))), c .before .before .status .ok, c .before .wide .ensures) }
-
-same-length : tie.Need-same-length
-same-length c = search needs
 
 returns : tie.Need-returns
 returns c =
@@ -45,11 +27,11 @@ pub mars-report-spec : {M : Type 1} → statement M
 mars-report-spec =
     tie.close
     (tie.spec
-    byte-report-requires
-    status-requires
-    wide-requires
-    mul-result
-    value-requires
+    (λ c κs. search needs)
+    (λ c κs. search needs)
+    (λ c κs. search needs)
+    (λ c. search needs)
+    (λ c κs. search needs)
     add-result
-    same-length
+    (λ c. search needs)
     returns)

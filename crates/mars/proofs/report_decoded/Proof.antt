@@ -12,23 +12,8 @@ use borrow.Author.Needs.{needs}
 use Rattle.mars.proofs.report_decoded.Statement.{statement}
 use Rattle.mars.proofs.report_decoded.Tie as tie
 
-decode-requires : tie.Need-decode-requires
-decode-requires c κs = search needs
-
-decode-requires-2 : tie.Need-decode-requires-2
-decode-requires-2 c κs = search needs
-
-room-requires : tie.Need-room-requires
-room-requires c κs = search needs
-
-slice-reshare-prefix-report-words : tie.Need-slice-reshare-prefix-report-words
-slice-reshare-prefix-report-words c = search needs
-
 slice-aggregate-report-words : tie.Need-slice-aggregate-report-words
 slice-aggregate-report-words c = let s = c .before .before .before .before .before .before .before .before .before .before .before .before .before .before .before .before in sym (length-take-le (length (now (s .args .day)) / 4) (c .before .before .before .before .before .before .before .before .decode .last .1 .0) (omega (arith, c .before .before .before .before .before .before .before .before .decode .kept .1 .0, s .pre .0 .0, s .pre .1 .0)))
-
-slice-reshare-prefix-report-words-2 : tie.Need-slice-reshare-prefix-report-words-2
-slice-reshare-prefix-report-words-2 c = search needs
 
 slice-aggregate-report-words-2 : tie.Need-slice-aggregate-report-words-2
 slice-aggregate-report-words-2 c = let s = c .before .before .before .before .before .before .before .before .before .before .before .before .before .before .before .before .before in sym (length-take-le (length (now (s .args .batch)) / 4) (c .before .before .before .before .before .decode2 .last .1 .0) (omega (arith, c .before .before .before .before .before .decode2 .kept .1 .0, s .pre .0 .1, s .pre .1 .1)))
@@ -41,18 +26,6 @@ slice-aggregate-report-words-3 c = let s = c .before .before .before .before .be
 
 report-words-requires : tie.Need-report-words-requires
 report-words-requires c κs = let s = c .before .before .before .before .before .before .before .before .before .before .before .before .before .before .before .before .before .before .before in length-take-le (c .before .before .before .before .room .result) (now (s .args .words)) (omega (arith, c .before .before .before .before .room .ensures, room-most (length (now (s .args .memory))), s .pre .1 .2)) ∙ c .before .before .before .before .room .ensures
-
-same-length : tie.Need-same-length
-same-length c = search needs
-
-same-length-2 : tie.Need-same-length-2
-same-length-2 c = search needs
-
-same-length-3 : tie.Need-same-length-3
-same-length-3 c = search needs
-
-same-length-4 : tie.Need-same-length-4
-same-length-4 c = search needs
 
 returns : tie.Need-returns
 returns c =
@@ -69,18 +42,18 @@ pub report-decoded-spec : {M : Type 1} → statement M
 report-decoded-spec =
     tie.close
     (tie.spec
-    decode-requires
-    decode-requires-2
-    room-requires
-    slice-reshare-prefix-report-words
+    (λ c κs. search needs)
+    (λ c κs. search needs)
+    (λ c κs. search needs)
+    (λ c. search needs)
     slice-aggregate-report-words
-    slice-reshare-prefix-report-words-2
+    (λ c. search needs)
     slice-aggregate-report-words-2
     slice-relend-prefix-report-words
     slice-aggregate-report-words-3
     report-words-requires
-    same-length
-    same-length-2
-    same-length-3
-    same-length-4
+    (λ c. search needs)
+    (λ c. search needs)
+    (λ c. search needs)
+    (λ c. search needs)
     returns)

@@ -15,12 +15,6 @@ use borrow.Author.Needs.{needs}
 use Rattle.mars.proofs.report_words.Statement.{statement}
 use Rattle.mars.proofs.report_words.Tie as tie
 
-report-requires : tie.Need-report-requires
-report-requires c κs = search needs
-
-enum-known-answer : tie.Need-enum-known-answer
-enum-known-answer c = search needs
-
 module _ (c : tie.After-answer) where
   abbrev s : tie.Start
   s = c .before .before .before .before .before .before .before .before .before .before
@@ -46,15 +40,6 @@ encode-front-requires c κs =
     let l = length (now (s a .args .memory)) in
     (omega (arith, fits a .0, a .before .before .before .before .report .kept .1 .1 .0), omega (arith, fits a .0, s a .pre, room-fits l), omega (arith, fits a .0, s a .pre, room-most l))
 
-enum-told : tie.Need-enum-told
-enum-told c = search needs
-
-same-length : tie.Need-same-length
-same-length c = search needs
-
-same-length-2 : tie.Need-same-length-2
-same-length-2 c = search needs
-
 returns : tie.Need-returns
 returns c =
     let a = c .before .before .before .before .before .before in
@@ -67,9 +52,6 @@ returns c =
           ∙ put-front (bytesOf r) m
           ∙ ap (λ (x : ℕ). bytesOf r ++ drop x m) (bytes-length r ∙ ap (λ (x : ℕ). 4 * x) (sym (fits a .1))),
     )
-
-same-length-3 : tie.Need-same-length-3
-same-length-3 c = search needs
 
 returns-2 : tie.Need-returns-2
 returns-2 c =
@@ -85,12 +67,12 @@ pub report-words-spec : {M : Type 1} → statement M
 report-words-spec =
     tie.close
     (tie.spec
-    report-requires
-    enum-known-answer
+    (λ c κs. search needs)
+    (λ c. search needs)
     encode-front-requires
-    enum-told
-    same-length
-    same-length-2
+    (λ c. search needs)
+    (λ c. search needs)
+    (λ c. search needs)
     returns
-    same-length-3
+    (λ c. search needs)
     returns-2)

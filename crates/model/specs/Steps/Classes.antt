@@ -36,5 +36,5 @@ abbrev pub worth : List ℕ → ℕ → ℤ → ℤ → ℤ
 worth d s n price = n *ℤ pos (multiplier d s) *ℤ price
 
 -- steps 4 and 5: a difference as a call has it, its negative for a put, none for another type
-abbrev pub turned : ℕ → ℤ → ℤ
-turned t z = cond (isCall t) z (cond (isPut t) (negℤ z) (pos 0))
+abbrev pub signedByType : ℕ → ℤ → ℤ
+signedByType t z = cond (isCall t) z (cond (isPut t) (negℤ z) (pos 0))

@@ -6,7 +6,7 @@ use lib.IntN.{ℤ, pos, _+ℤ_, _-ℤ_}
 use Rattle.numbers.specs.Sums.{sumWhere}
 use Rattle.model.specs.DayFile.{underlying, projected, seriesCount, seriesType, closing, theoretical, isFuture}
 use Rattle.model.specs.Steps.Positions.{openNet, exercisedNet}
-use Rattle.model.specs.Steps.Classes.{ofClass, worth, turned}
+use Rattle.model.specs.Steps.Classes.{ofClass, worth, signedByType}
 use Rattle.model.specs.Steps.Spread.{nonSpread}
 
 -- the price change of an open position at point k: theoretical − closing price
@@ -15,7 +15,7 @@ openChange d s k = pos (theoretical d s k) -ℤ pos (closing d s)
 
 -- of an exercised or assigned one: projected underlying − underlying for a call, the negative for a put
 abbrev pub exercisedChange : List ℕ → ℕ → ℕ → ℕ → ℤ
-exercisedChange d c s k = turned (seriesType d s) (pos (projected d c k) -ℤ pos (underlying d c))
+exercisedChange d c s k = signedByType (seriesType d s) (pos (projected d c k) -ℤ pos (underlying d c))
 
 module _ (d : List ℕ) (net : ℕ → ℤ) (book : ℕ) where
   -- the open net that counts: futures with only their non-spread net

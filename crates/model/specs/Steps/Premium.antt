@@ -5,11 +5,11 @@ use lib.IntN.{ℤ, pos, _+ℤ_, _-ℤ_}
 use Rattle.numbers.specs.Sums.{sumWhere}
 use Rattle.model.specs.DayFile.{underlying, seriesCount, seriesType, strike, closing}
 use Rattle.model.specs.Steps.Positions.{openNet, exercisedNet}
-use Rattle.model.specs.Steps.Classes.{optionOf, worth, turned}
+use Rattle.model.specs.Steps.Classes.{optionOf, worth, signedByType}
 
 -- the in-the-money amount of option s of class c: underlying − strike for a call, strike − underlying for a put, negative where it is so
 abbrev pub inTheMoney : List ℕ → ℕ → ℕ → ℤ
-inTheMoney d c s = turned (seriesType d s) (pos (underlying d c) -ℤ pos (strike d s))
+inTheMoney d c s = signedByType (seriesType d s) (pos (underlying d c) -ℤ pos (strike d s))
 
 module _ (d : List ℕ) (net : ℕ → ℤ) (book : ℕ) where
   -- of an option: open net × multiplier × closing price, and exercised or assigned net × multiplier × in-the-money amount

@@ -73,12 +73,6 @@ add-at-requires-2 c κs =
       slot-fits 1024 (key (b l)) (dvpAmount (b l)) (l .before .loop .dvps) (r l) (q .result) _ (l .before .loop .inv .2) (q .ensures) z (omega arith) (recordCount (b l)) (below l) (limited l .few) (limited l .dvps),
     )
 
-add-r : tie.Need-add-r Inv-loop μ-loop
-add-r c = search needs
-
-loop-less : tie.Need-loop-less Inv-loop μ-loop
-loop-less c = search needs
-
 loop-again : tie.Need-loop-again Inv-loop μ-loop
 loop-again c =
     let l = c .before .before .before .before .before .before .before .before .before in
@@ -118,8 +112,8 @@ net-positions-spec =
     add-at-requires
     dvp-amount-requires
     add-at-requires-2
-    add-r
-    loop-less
+    (λ c. search needs)
+    (λ c. search needs)
     loop-again
     same-length
     same-length-2

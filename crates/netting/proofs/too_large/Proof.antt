@@ -11,6 +11,7 @@ use denote.Ref.{now}
 use mir.Syntax.{w64}
 use mir.Val.{toZ, ofZ}
 use Rattle.numbers.specs.Table.{length-tabulate}
+use Rattle.model.specs.Limits.{positionLimit}
 use Rattle.model.specs.DayFile.{multiplier, seriesWord}
 use Rattle.model.specs.Batch.{key, place}
 use Rattle.model.specs.Netting.{net, row30}
@@ -59,8 +60,8 @@ module _ (c : tie.After-wide) where
   wide-is : c .wide .result ≡ multiplier (d (c .before .before .before .before)) (place (b (c .before .before .before .before)) (r (c .before .before .before .before)))
   wide-is = c .wide .ensures ∙ c .before .multiplier .ensures ∙ ap (multiplier (d (c .before .before .before .before))) (placed (c .before .before .before .before))
 
-mul-result : tie.Need-mul-result
-mul-result c =
+mul-position-too-large : tie.Need-mul-position-too-large
+mul-position-too-large c =
     let l = c .before .before .before .before in
     let h = mul-le-mul (net-limit (b l) (l .before .before .before .pre .0) (key (b l) (r l))) (few (seriesWord (d l) (place (b l) (r l)) 1)) in
     let e : c .before .before .size .result * c .wide .result ≡ natAbs (net (b l) (key (b l) (r l))) * multiplier (d l) (place (b l) (r l)) = λ i. size-is c i * wide-is c i in
@@ -68,7 +69,7 @@ mul-result c =
 
 returns : tie.Need-returns
 unfolding row30
-returns c = λ i. ltb 10000000 (size-is c i * wide-is c i)
+returns c = c .position-too-large .ensures ∙ (λ i. ltb positionLimit (size-is (c .before) i * wide-is (c .before) i))
 
 pub too-large-spec : {M : Type 1} → statement M
 too-large-spec =
@@ -80,5 +81,6 @@ too-large-spec =
     size-requires
     multiplier-requires
     (λ c κs. search needs)
-    mul-result
+    mul-position-too-large
+    (λ c κs. search needs)
     returns)

@@ -4,48 +4,28 @@ use Rattle.program.specs.Files.{unopened-day, bad-day, unopened-batch, o
 use borrow.Author.Needs.{needs}
 use Rattle.program.proofs.answer_files.Statement.{statement}
 use Rattle.program.proofs.answer_files.Tie as tie
-use Rattle.program.proofs.answer_files.Reads as reads
-use Rattle.program.proofs.answer_files.Lts as lts
-use Rattle.mars.proofs.bad_bytes.Reads as bad-bytes-reads
-use Rattle.mars.proofs.byte_report.Reads as byte-report-reads
 
--- src/lib.rt:21:9
 returns : tie.Need-returns
 returns c =
     let s = c .before .before .before .before in
-    (unopened-day (now (s .args .day)) (now (s .args .batch)) (s .args .first) (s .args .second) (c .if1 .taken), s .pre)
+    (unopened-day (now (s .args .day)) (now (s .args .batch)) (s .args .day-opened) (s .args .batch-opened) (c .if1 .taken), s .pre)
 
--- src/lib.rt:24:12
-bad-bytes-requires : tie.Need-bad-bytes-requires
-bad-bytes-requires c κs = search needs
-
--- src/lib.rt:25:13
 returns-2 : tie.Need-returns-2
 returns-2 c =
     let s = c .before .before .before .before .before .before .before in
-    (bad-day (now (s .args .day)) (now (s .args .batch)) (s .args .first) (s .args .second) (c .before .before .before .if1 .left) (c .before .before .if2 .taken) (sym (c .before .bad-bytes .ensures) ∙ c .if3 .taken), s .pre)
+    (bad-day (now (s .args .day)) (now (s .args .batch)) (s .args .day-opened) (s .args .batch-opened) (c .before .before .before .if1 .left) (c .before .before .if2 .taken) (sym (c .before .bad-bytes .ensures) ∙ c .if3 .taken), s .pre)
 
--- src/lib.rt:27:9
 returns-3 : tie.Need-returns-3
 returns-3 c =
     let s = c .before .before .before .before .before .before .before in
-    (unopened-batch (now (s .args .day)) (now (s .args .batch)) (s .args .first) (s .args .second) (c .before .before .before .if1 .left) (c .before .before .if2 .taken) (sym (c .before .bad-bytes .ensures) ∙ c .if3 .left), s .pre)
+    (unopened-batch (now (s .args .day)) (now (s .args .batch)) (s .args .day-opened) (s .args .batch-opened) (c .before .before .before .if1 .left) (c .before .before .if2 .taken) (sym (c .before .bad-bytes .ensures) ∙ c .if3 .left), s .pre)
 
--- src/lib.rt:29:5
-byte-report-requires : tie.Need-byte-report-requires
-byte-report-requires c κs = search needs
-
--- src/lib.rt:15:1
-same-length : tie.Need-same-length
-same-length c = search needs
-
--- src/lib.rt:15:1
 returns-4 : tie.Need-returns-4
 returns-4 c =
     let s = c .before .before .before .before .before .before .before .before .before in
     let r = c .before .before .byte-report in
     let e = r .ensures .0 in (
-      e ∙ opened (now (s .args .day)) (now (s .args .batch)) (s .args .first) (s .args .second) (c .before .before .before .before .before .if1 .left) (c .before .before .before .before .if2 .left) (now (s .args .memory)) (s .pre),
+      e ∙ opened (now (s .args .day)) (now (s .args .batch)) (s .args .day-opened) (s .args .batch-opened) (c .before .before .before .before .before .if1 .left) (c .before .before .before .before .if2 .left) (now (s .args .memory)) (s .pre),
       r .ensures .1 ∙ opened-bytes (now (s .args .day)) (now (s .args .batch)) (r .result) (now (s .args .memory)) (s .pre) e,
     )
 
@@ -54,9 +34,9 @@ answer-files-spec =
     tie.close
     (tie.spec
     returns
-    bad-bytes-requires
+    (λ c κs. search needs)
     returns-2
     returns-3
-    byte-report-requires
-    same-length
+    (λ c κs. search needs)
+    (λ c. search needs)
     returns-4)

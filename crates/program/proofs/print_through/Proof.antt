@@ -10,17 +10,7 @@ use Rattle.program.specs.Files.{long, decoded, text-fits}
 use borrow.Author.Needs.{needs}
 use Rattle.program.proofs.print_through.Statement.{statement}
 use Rattle.program.proofs.print_through.Tie as tie
-use Rattle.program.proofs.print_through.Reads as reads
-use Rattle.program.proofs.print_through.Lts as lts
-use Rattle.byte_words.proofs.decode.Reads as decode-reads
-use Rattle.program.proofs.answer_files.Reads as answer-files-reads
-use Rattle.text.proofs.lines.write_answer.Reads as write-answer-reads
 
--- src/lib.rt:39:9
-answer-files-requires : tie.Need-answer-files-requires
-answer-files-requires c κs = search needs
-
--- src/lib.rt:40:5
 decode-requires : tie.Need-decode-requires
 decode-requires c κs =
     let s = c .before .before .before .before .before .before .before .before .before .before .before in
@@ -28,51 +18,37 @@ decode-requires c κs =
     let n = long (a .last .1 .1 .1 .1 .0) (now (s .args .memory)) (a .kept .1 .1 .1 .1 .0) (s .pre .0) in
     (omega (arith, n, s .pre .1), omega (arith, n))
 
--- src/lib.rt:41:5
 write-answer-requires : tie.Need-write-answer-requires
 write-answer-requires c κs =
     let s = c .before .before .before .before .before .before .before .before .before .before .before .before .before .before .before .before in
     let a = c .before .before .before .before .before .before .before .before .before .answer-files in
     let d = c .before .before .before .before .decode in
-    let t = decoded (s .args .first) (now (s .args .day)) (s .args .second) (now (s .args .batch)) (a .result) (a .last .1 .1 .1 .1 .0) (a .ensures .0) (a .ensures .1)
+    let t = decoded (s .args .day-opened) (now (s .args .day)) (s .args .batch-opened) (now (s .args .batch)) (a .result) (a .last .1 .1 .1 .1 .0) (a .ensures .0) (a .ensures .1)
     (long (a .last .1 .1 .1 .1 .0) (now (s .args .memory)) (a .kept .1 .1 .1 .1 .0) (s .pre .0)) (now (s .args .words)) (d .last .1 .0) (s .pre .1 .0) (d .ensures) in
     (s .pre .1 .1, t .1)
 
--- src/lib.rt:33:1
-same-length : tie.Need-same-length
-same-length c = search needs
-
--- src/lib.rt:33:1
-same-length-2 : tie.Need-same-length-2
-same-length-2 c = search needs
-
--- src/lib.rt:33:1
-same-length-3 : tie.Need-same-length-3
-same-length-3 c = search needs
-
--- src/lib.rt:33:1
 returns : tie.Need-returns
 returns c =
     let s = c .before .before .before .before .before .before .before .before .before .before .before .before .before .before .before .before .before .before .before in
     let a = c .before .before .before .before .before .before .before .before .before .before .before .before .answer-files in
     let d = c .before .before .before .before .before .before .before .decode in
     let w = c .before .before .write-answer in
-    let t = decoded (s .args .first) (now (s .args .day)) (s .args .second) (now (s .args .batch)) (a .result) (a .last .1 .1 .1 .1 .0) (a .ensures .0) (a .ensures .1)
+    let t = decoded (s .args .day-opened) (now (s .args .day)) (s .args .batch-opened) (now (s .args .batch)) (a .result) (a .last .1 .1 .1 .1 .0) (a .ensures .0) (a .ensures .1)
     (long (a .last .1 .1 .1 .1 .0) (now (s .args .memory)) (a .kept .1 .1 .1 .1 .0) (s .pre .0)) (now (s .args .words)) (d .last .1 .0) (s .pre .1 .0) (d .ensures) in
     let n = w .ensures .0 ∙ ap length (t .0) in
     let o = w .ensures .1 ∙ ap (λ (x : List ℕ). put 0 x (now (s .args .out))) (t .0) in
     let m = rw (a .ensures .0) at (a .ensures .1) in
-    let f = text-fits (programText (s .args .first) (now (s .args .day)) (s .args .second) (now (s .args .batch))) (now (s .args .out)) (w .last .1 .1 .0) (w .result) n o in
+    let f = text-fits (programText (s .args .day-opened) (now (s .args .day)) (s .args .batch-opened) (now (s .args .batch))) (now (s .args .out)) (w .last .1 .1 .0) (w .result) n o in
     ((n, o), (f, (m, d .ensures)))
 
 pub print-through-spec : {M : Type 1} → statement M
 print-through-spec =
     tie.close
     (tie.spec
-    answer-files-requires
+    (λ c κs. search needs)
     decode-requires
     write-answer-requires
-    same-length
-    same-length-2
-    same-length-3
+    (λ c. search needs)
+    (λ c. search needs)
+    (λ c. search needs)
     returns)

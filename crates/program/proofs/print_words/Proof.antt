@@ -9,20 +9,11 @@ use borrow.Author.Needs.{needs}
 use Rattle.program.proofs.print_words.Statement.{statement}
 use Rattle.program.proofs.print_words.Tie as tie
 
-report-requires : tie.Need-report-requires
-report-requires c κs = search needs
-
 write-answer-requires : tie.Need-write-answer-requires
 write-answer-requires c κs =
     let s = c .before .before .before .before .before .before .before .before .before .before in
     let r = c .before .before .before .before .report in
     (s .pre, room-of (now (s .args .day)) (now (s .args .batch)) (now (s .args .memory)) (r .result) (r .last .1 .1 .0) (r .ensures .0) (r .ensures .1))
-
-same-length : tie.Need-same-length
-same-length c = search needs
-
-same-length-2 : tie.Need-same-length-2
-same-length-2 c = search needs
 
 returns : tie.Need-returns
 returns c =
@@ -39,4 +30,4 @@ returns c =
 
 pub print-words-spec : {M : Type 1} → statement M
 print-words-spec =
-    tie.close (tie.spec report-requires write-answer-requires same-length same-length-2 returns)
+    tie.close (tie.spec (λ c κs. search needs) write-answer-requires (λ c. search needs) (λ c. search needs) returns)

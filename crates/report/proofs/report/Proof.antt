@@ -9,29 +9,14 @@ use Rattle.report.specs.Calls.{answer-day, answer-batch, answer-checked,
 use Rattle.report.proofs.report.Statement.{statement}
 use Rattle.report.proofs.report.Tie as tie
 
-check-day-requires : tie.Need-check-day-requires
-check-day-requires c κs = search needs
-
-enum-known-check : tie.Need-enum-known-check
-enum-known-check c = search needs
-
 returns : tie.Need-returns
 returns c =
     let s = c .before .before .before .before .before .before .before in
     let e = answer-day (now (s .args .day)) (now (s .args .batch)) (length (now (s .args .memory))) _ (sym (c .before .before .before .check-day .ensures) ∙ c .before .check .given .1) in
     (e, memory-of (now (s .args .day)) (now (s .args .batch)) (now (s .args .memory)) _ e)
 
-enum-told : tie.Need-enum-told
-enum-told c = search needs
-
 day-fine : (c : tie.After-enum-told) → dayCheck (now (c .before .before .before .before .before .before .args .day)) ≡ Passed
 day-fine c = sym (c .before .before .check-day .ensures) ∙ c .enum-told .given .1
-
-check-batch-requires : tie.Need-check-batch-requires
-check-batch-requires c κs = search needs
-
-enum-known-check-2 : tie.Need-enum-known-check-2
-enum-known-check-2 c = search needs
 
 returns-2 : tie.Need-returns-2
 returns-2 c =
@@ -39,17 +24,11 @@ returns-2 c =
     let e = answer-batch (now (s .args .day)) (now (s .args .batch)) (length (now (s .args .memory))) _ (day-fine (c .before .before .before .before)) (sym (c .before .before .before .check-batch .ensures) ∙ c .before .check2 .given .1) in
     (e, memory-of (now (s .args .day)) (now (s .args .batch)) (now (s .args .memory)) _ e)
 
-enum-told-2 : tie.Need-enum-told-2
-enum-told-2 c = search needs
-
 batch-fine : (c : tie.After-enum-told2) → batchCheck (now (c .before .before .before .before .before .before .before .before .before .args .day)) (now (c .before .before .before .before .before .before .before .before .before .args .batch)) ≡ Passed
 batch-fine c = sym (c .before .before .check-batch .ensures) ∙ c .enum-told2 .given .1
 
 report-checked-requires : tie.Need-report-checked-requires
 report-checked-requires c κs = (day-fine (c .before .before .before .before), batch-fine (c .before))
-
-same-length : tie.Need-same-length
-same-length c = search needs
 
 returns-3 : tie.Need-returns-3
 returns-3 c =
@@ -62,14 +41,14 @@ pub report-spec : {M : Type 1} → statement M
 report-spec =
     tie.close
     (tie.spec
-    check-day-requires
-    enum-known-check
+    (λ c κs. search needs)
+    (λ c. search needs)
     returns
-    enum-told
-    check-batch-requires
-    enum-known-check-2
+    (λ c. search needs)
+    (λ c κs. search needs)
+    (λ c. search needs)
     returns-2
-    enum-told-2
+    (λ c. search needs)
     report-checked-requires
-    same-length
+    (λ c. search needs)
     returns-3)

@@ -29,42 +29,21 @@ module _ (s : tie.Start) where
   checks : BatchChecks d b
   checks = batch-checked d b (s .pre .1)
 
-slice-aggregate-net-positions : tie.Need-slice-aggregate-net-positions
-slice-aggregate-net-positions c = search needs
-
-slice-aggregate-net-positions-2 : tie.Need-slice-aggregate-net-positions-2
-slice-aggregate-net-positions-2 c = search needs
-
 net-positions-requires : tie.Need-net-positions-requires
 net-positions-requires c κs =
     let s = c .before .before .before .before .before in
     (limited (d s) (b s) (checks s), (replicate-tabulate 1024 (pos 0), replicate-tabulate 1024 (pos 0)))
-
-slice-aggregate-check-nets : tie.Need-slice-aggregate-check-nets
-slice-aggregate-check-nets c = search needs
 
 check-nets-requires : tie.Need-check-nets-requires
 check-nets-requires c κs =
     let s = c .before .before .before .before .before .before .before .before .before in
     (limited (d s) (b s) (checks s), (placed (d s) (b s) (days s) (checks s), c .before .before .before .net-positions .ensures .0))
 
-enum-known-check : tie.Need-enum-known-check
-enum-known-check c = search needs
-
 returns : tie.Need-returns
 returns c = (rw (← c .before .before .before .check-nets .ensures, c .before .check .given .1), refl)
 
-enum-told : tie.Need-enum-told
-enum-told c = search needs
-
 starts-requires : tie.Need-starts-requires
 starts-requires c κs = days (c .before .before .before .before .before .before .before .before .before .before .before .before)
-
-slice-aggregate-report-accepted : tie.Need-slice-aggregate-report-accepted
-slice-aggregate-report-accepted c = search needs
-
-slice-aggregate-report-accepted-2 : tie.Need-slice-aggregate-report-accepted-2
-slice-aggregate-report-accepted-2 c = search needs
 
 passed : (c : tie.After-enum-told) → nettingCheck (d (c .before .before .before .before .before .before .before .before .before .before .before .before)) (b (c .before .before .before .before .before .before .before .before .before .before .before .before)) ≡ Passed
 passed c = sym (c .before .before .check-nets .ensures) ∙ c .enum-told .given .1
@@ -77,9 +56,6 @@ report-accepted-requires c κs =
     let s = c .before .before .before .before .before .before .before .before .before .before .before .before .before .before .before .before .before in
     let n = c .before .before .before .before .before .before .before .before .before .before .before .net-positions in
     (days s, (tables-budget (d s) (b s) (days s) (n .last .1 .0) (n .last .1 .1 .0) (n .ensures .0) (n .ensures .1) (batch-rows (d s) (b s) (accepted (c .before .before .before .before .before))), c .before .before .before .before .starts .ensures))
-
-same-length : tie.Need-same-length
-same-length c = search needs
 
 returns-2 : tie.Need-returns-2
 returns-2 c =
@@ -98,17 +74,17 @@ pub report-checked-spec : {M : Type 1} → statement M
 report-checked-spec =
     tie.close
     (tie.spec
-    slice-aggregate-net-positions
-    slice-aggregate-net-positions-2
+    (λ c. search needs)
+    (λ c. search needs)
     net-positions-requires
-    slice-aggregate-check-nets
+    (λ c. search needs)
     check-nets-requires
-    enum-known-check
+    (λ c. search needs)
     returns
-    enum-told
+    (λ c. search needs)
     starts-requires
-    slice-aggregate-report-accepted
-    slice-aggregate-report-accepted-2
+    (λ c. search needs)
+    (λ c. search needs)
     report-accepted-requires
-    same-length
+    (λ c. search needs)
     returns-2)

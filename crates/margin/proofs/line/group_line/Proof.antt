@@ -8,6 +8,7 @@ use lib.IntN.{ℤ, pos, negℤ, natAbs, _-ℤ_, +ℤ-idl}
 use mir.Syntax.{w64}
 use mir.Val.{toZ, ofZ}
 use Rattle.numbers.specs.Abs.{told, back, fits-by, natAbs-neg}
+use Rattle.model.specs.Limits.{worthLimit, marginLimit}
 use Rattle.model.specs.DayFile.{classCount}
 use Rattle.model.specs.Steps.Margin.{marginOf}
 use Rattle.classes.specs.Tables.{entry, given}
@@ -46,10 +47,10 @@ module _ (c : tie.After-group-amounts) where
   premium-is : toZ w64 (ofZ w64 (a .premium)) ≡ a .premium
   premium-is = back refl (omega (arith, small .premiumSmall))
 
-  r-size : natAbs r ≤ 1280000000000000000
+  r-size : natAbs r ≤ worthLimit
   r-size = requirement-size a small
 
-  total-size : natAbs z ≤ 7040000000000000000
+  total-size : natAbs z ≤ marginLimit
   total-size = sum-size (a .spread) (a .mtm) (a .premium) r (small .spreadSmall) (small .mtmSmall) (small .premiumSmall) r-size
 
 requirement-is : (c : tie.After-additional-requirement) → toZ w64 (ofZ w64 (c .additional-requirement .result)) ≡ r (c .before .before .before)

@@ -9,6 +9,7 @@ use Rattle.numbers.specs.Abs.{told, fits-by}
 use Rattle.margin.specs.Lines.{two-size, three-size, sum-size}
 use Rattle.margin.proofs.line.group_sum.Statement.{statement}
 use Rattle.margin.proofs.line.group_sum.Tie as tie
+use Rattle.model.specs.Limits.{worthLimit, mtmLimit, spreadLimit}
 
 two-is : (c : tie.Start) → toZ w64 (ofZ w64 (c .args .spread)) +ℤ toZ w64 (ofZ w64 (c .args .mtm)) ≡ c .args .spread +ℤ c .args .mtm
 two-is c = λ i. toZ-ofZ (c .fits .spread) i +ℤ toZ-ofZ (c .fits .mtm) i
@@ -24,7 +25,7 @@ four-is c = λ i. told (c .add2 .ok) (c .add2 .ensures ∙ three-is (c .before))
 
 -- a law of the sums on the way, at the function's arguments
 abbrev at : {R : ℤ → ℤ → ℤ → ℤ → Type 0}
-    → ((s t p r : ℤ) → natAbs s ≤ 1920000000000000000 → natAbs t ≤ 2560000000000000000 → natAbs p ≤ 1280000000000000000 → natAbs r ≤ 1280000000000000000 → R s t p r)
+    → ((s t p r : ℤ) → natAbs s ≤ spreadLimit → natAbs t ≤ mtmLimit → natAbs p ≤ worthLimit → natAbs r ≤ worthLimit → R s t p r)
     → (c : tie.Start) → R (c .args .spread) (c .args .mtm) (c .args .premium) (c .args .requirement)
 at law c = law (c .args .spread) (c .args .mtm) (c .args .premium) (c .args .requirement) (c .pre .0) (c .pre .1) (c .pre .2) (c .pre .3)
 

@@ -3,10 +3,10 @@ use mathlib.Core.Path.{_≡_, ap, _∙_}
 use lib.IntN.{pos, _*ℤ_}
 use mir.Facts.{toZ-ofZ}
 use Rattle.model.specs.DayFile.{multiplier, seriesType}
-use Rattle.model.specs.Steps.Classes.{turned}
+use Rattle.model.specs.Steps.Classes.{signedByType}
 use Rattle.model.proofs.Limits.{underlying-limit}
-use Rattle.points.specs.Added.{added, is-none}
-use Rattle.points.specs.Series.{exercised-none, turned-small, projected-limit}
+use Rattle.accumulator.specs.Added.{added, is-none}
+use Rattle.points.specs.Series.{exercised-none, by-type-small, projected-limit}
 use Rattle.points.proofs.series.add_exercised.Statement.{statement}
 use Rattle.points.proofs.series.add_exercised.Tie as tie
 
@@ -19,12 +19,12 @@ returns c =
 
 contracts-is : (c : tie.After-exercised-position)
     → c .exercised-position .result .contracts
-    ≡ (let x = c .before .before .before .before .args in turned (seriesType (x .day .now) (x .s)) (x .net *ℤ pos (multiplier (x .day .now) (x .s))))
+    ≡ (let x = c .before .before .before .before .args in signedByType (seriesType (x .day .now) (x .s)) (x .net *ℤ pos (multiplier (x .day .now) (x .s))))
 contracts-is c =
     let a = c .before .before .before .before in
     let x = a .args in
     c .exercised-position .ensures .0
-    ∙ ap (λ z. turned (seriesType (x .day .now) (x .s)) (z *ℤ pos (multiplier (x .day .now) (x .s)))) (toZ-ofZ (a .fits .net))
+    ∙ ap (λ z. signedByType (seriesType (x .day .now) (x .s)) (z *ℤ pos (multiplier (x .day .now) (x .s)))) (toZ-ofZ (a .fits .net))
 
 add-requires : tie.Need-add-requires
 add-requires c κs =
@@ -33,7 +33,7 @@ add-requires c κs =
     let e = c .exercised-position .ensures in
     let p = a .pre .1 .0 in (
       (
-        rw (contracts-is c) (turned-small (x .day .now) (x .s) (x .net) (seriesType (x .day .now) (x .s)) (p .2)),
+        rw (contracts-is c) (by-type-small (x .day .now) (x .s) (x .net) (seriesType (x .day .now) (x .s)) (p .2)),
         rw (e .1) (underlying-limit (x .day .now) (a .pre .0 .rows) (x .c) (p .0)),
         rw (e .2) (projected-limit (x .day .now) (a .pre .0 .rows) (x .c) (p .0)),
       ),

@@ -4,7 +4,7 @@ use lib.IntN.{pos, _*ℤ_}
 use mir.Facts.{toZ-ofZ}
 use Rattle.model.specs.DayFile.{multiplier}
 use Rattle.model.proofs.Limits.{closing-limit}
-use Rattle.points.specs.Added.{added, is-none}
+use Rattle.accumulator.specs.Added.{added, is-none}
 use Rattle.points.specs.Series.{open-none, contracts-small, theoretical-limit}
 use Rattle.points.proofs.series.add_open.Statement.{statement}
 use Rattle.points.proofs.series.add_open.Tie as tie

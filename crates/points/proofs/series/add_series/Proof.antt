@@ -9,6 +9,7 @@ use mir.Syntax.{w64}
 use mir.Val.{toZ, ofZ}
 use mir.Facts.{toZ-ofZ}
 use Rattle.numbers.specs.Abs.{told}
+use Rattle.model.specs.Limits.{contractsLimit}
 use Rattle.model.specs.DayFile.{seriesCount, seriesType, isFuture, multiplier}
 use Rattle.model.specs.Steps.Positions.{openNet, exercisedNet}
 use Rattle.model.specs.Steps.Points.{countedNet}
@@ -40,10 +41,10 @@ module _ (c : tie.Start) where
   quantity-is : toZ w64 (ofZ w64 (c .args .quantity)) ≡ spreadQuantity d n k (c .args .c)
   quantity-is = toZ-ofZ (c .fits .quantity) ∙ c .pre .1 .1 .0
 
-  open-size : natAbs (openNet n k s) ≤ 2560000000
+  open-size : natAbs (openNet n k s) ≤ contractsLimit
   open-size = net-size d (c .args .nets .now) (c .pre .0) k 0 s (c .pre .1 .0 .0) (omega arith) (c .pre .1 .0 .2)
 
-  counted-small : natAbs (countedNet d n k (c .args .c) s) * multiplier d s ≤ 2560000000
+  counted-small : natAbs (countedNet d n k (c .args .c) s) * multiplier d s ≤ contractsLimit
   counted-small = counted-size d (c .args .nets .now) (c .pre .0) k (c .args .c) s (c .pre .1 .0 .0) (c .pre .1 .0 .1) (c .pre .1 .0 .2)
 
   -- the amounts after the open position

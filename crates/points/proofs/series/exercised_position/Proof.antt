@@ -7,7 +7,7 @@ use mir.Val.{toZ, ofZ}
 use mir.Facts.{toZ-ofZ}
 use Rattle.numbers.specs.Abs.{told, natAbs-*}
 use Rattle.model.specs.DayFile.{multiplier}
-use Rattle.model.specs.Steps.Classes.{turned}
+use Rattle.model.specs.Steps.Classes.{signedByType}
 use Rattle.points.proofs.series.exercised_position.Statement.{statement}
 use Rattle.points.proofs.series.exercised_position.Tie as tie
 
@@ -20,19 +20,19 @@ contracts-is c =
     let a = c .before .before .before .before in
     told (c .contracts .ok) (c .contracts .ensures ∙ ap (λ z. z *ℤ pos (multiplier (a .args .day .now) (a .args .s))) (toZ-ofZ (a .fits .net)))
 
-turned-requires : tie.Need-turned-requires
-turned-requires c κs =
+signed-by-type-requires : tie.Need-signed-by-type-requires
+signed-by-type-requires c κs =
     let a = c .before .before .before .before in
     rw (contracts-is c) (omega (arith, natAbs-* (a .args .net) (pos (multiplier (a .args .day .now) (a .args .s))), a .pre .1 .2))
 
 returns : tie.Need-returns
 returns c =
     let b = c .before in (
-      told (b .turned .ok) (b .turned .ensures ∙ (λ i. turned (b .before .before .series-type .ensures i) (contracts-is (b .before) i))),
+      told (b .signed-by-type .ok) (b .signed-by-type .ensures ∙ (λ i. signedByType (b .before .before .series-type .ensures i) (contracts-is (b .before) i))),
       c .underlying .ensures,
       b .before .before .before .projected-prices .ensures,
     )
 
 pub exercised-position-spec : {M : Type 1} → statement M
 exercised-position-spec =
-    tie.close (tie.spec (λ c κs. search needs) (λ c κs. search needs) contracts-requires turned-requires (λ c κs. search needs) returns)
+    tie.close (tie.spec (λ c κs. search needs) (λ c κs. search needs) contracts-requires signed-by-type-requires (λ c κs. search needs) returns)

@@ -46,9 +46,6 @@ module _ (c : tie.Start) where
   so-far : ℤ
   so-far = sumWhere g t (margin d n v k)
 
-shr-if1 : tie.Need-shr-if1
-shr-if1 c = search needs
-
 returns : tie.Need-returns
 returns c =
     let s = c .before .before .before in
@@ -90,23 +87,8 @@ module _ (c : tie.After-group-line) where
   unfolding lineWords
   line-is = refl
 
-index-requires : tie.Need-index-requires
-index-requires c κs = search needs
-
-index-requires-2 : tie.Need-index-requires-2
-index-requires-2 c κs = search needs
-
 group-line-requires : tie.Need-group-line-requires
 group-line-requires c κs = let p = c .before .before .before .before .before .pre in (p .0, (p .1 .0, ((omega (arith, c .before .index .ensures, p .1 .1 .0 .0), omega (arith, c .index2 .ensures, p .1 .1 .0 .1)), p .1 .1 .1 .0)))
-
-mul-write-headed-at : tie.Need-mul-write-headed-at
-mul-write-headed-at c = search needs
-
-add-write-headed-at : tie.Need-add-write-headed-at
-add-write-headed-at c = search needs
-
-slice-aggregate-write-headed-at : tie.Need-slice-aggregate-write-headed-at
-slice-aggregate-write-headed-at c = search needs
 
 write-headed-at-requires : tie.Need-write-headed-at-requires
 write-headed-at-requires c κs =
@@ -120,9 +102,6 @@ add-requires : tie.Need-add-requires
 add-requires c κs =
     let l = c .before .before .before .before .before .before .before .before in
     fits-by (sum-is l) (total-so-far (d (s l)) (n (s l)) (v (s l)) (s l .pre .0) (s l .pre .1 .0) (k (s l)) (g (s l) + 1) (s l .pre .1 .1 .0 .0) (omega (arith, s l .pre .1 .1 .0 .1)))
-
-same-length : tie.Need-same-length
-same-length c = search needs
 
 returns-2 : tie.Need-returns-2
 returns-2 c =
@@ -141,16 +120,16 @@ pub write-group-spec : {M : Type 1} → statement M
 write-group-spec =
     tie.close
     (tie.spec
-    shr-if1
+    (λ c. search needs)
     returns
-    index-requires
-    index-requires-2
+    (λ c κs. search needs)
+    (λ c κs. search needs)
     group-line-requires
-    mul-write-headed-at
-    add-write-headed-at
-    slice-aggregate-write-headed-at
+    (λ c. search needs)
+    (λ c. search needs)
+    (λ c. search needs)
     write-headed-at-requires
     add-t17
     add-requires
-    same-length
+    (λ c. search needs)
     returns-2)

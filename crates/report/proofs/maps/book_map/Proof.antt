@@ -47,12 +47,6 @@ with-bit-requires c κs = (map-size c, omega (arith, bit-size c))
 mul-bit : tie.Need-mul-bit Inv-loop μ-loop
 mul-bit c = record { fits = omega (arith, bit-size (c .before)) }
 
-add-g : tie.Need-add-g Inv-loop μ-loop
-add-g c = search needs
-
-loop-less : tie.Need-loop-less Inv-loop μ-loop
-loop-less c = search needs
-
 loop-again : tie.Need-loop-again Inv-loop μ-loop
 loop-again c =
     let l = c .before in (
@@ -81,7 +75,7 @@ book-map-spec =
     (λ c. search needs)
     with-bit-requires
     mul-bit
-    add-g
-    loop-less
+    (λ c. search needs)
+    (λ c. search needs)
     loop-again
     returns)

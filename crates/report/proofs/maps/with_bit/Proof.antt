@@ -3,9 +3,6 @@ use native.Mathlib.Omega.{arith}
 use Rattle.report.proofs.maps.with_bit.Statement.{statement}
 use Rattle.report.proofs.maps.with_bit.Tie as tie
 
-add-result : tie.Need-add-result
-add-result c = search needs
-
 returns : tie.Need-returns
 returns c = rw (c .if1 .taken)
 
@@ -13,4 +10,4 @@ returns-2 : tie.Need-returns-2
 returns-2 c = rw (c .if1 .left) (omega arith)
 
 pub with-bit-spec : {M : Type 1} → statement M
-with-bit-spec = tie.close (tie.spec add-result returns returns-2)
+with-bit-spec = tie.close (tie.spec (λ c. search needs) returns returns-2)

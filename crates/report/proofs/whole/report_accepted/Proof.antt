@@ -16,24 +16,6 @@ use Rattle.report.specs.Whole.{needed-is}
 use Rattle.report.proofs.whole.report_accepted.Statement.{statement}
 use Rattle.report.proofs.whole.report_accepted.Tie as tie
 
-book-map-requires : tie.Need-book-map-requires
-book-map-requires c κs = search needs
-
-book-map-requires-2 : tie.Need-book-map-requires-2
-book-map-requires-2 c κs = search needs
-
-line-count-requires : tie.Need-line-count-requires
-line-count-requires c κs = search needs
-
-index-requires : tie.Need-index-requires
-index-requires c κs = search needs
-
-mul-needed : tie.Need-mul-needed
-mul-needed c = search needs
-
-add-needed : tie.Need-add-needed
-add-needed c = search needs
-
 module _ (c : tie.After-index) where
   abbrev s : tie.Start
   s = c .before .before .before .before .before .before
@@ -65,9 +47,6 @@ write-report-requires c κs =
     let p = s a .pre in
     (p .0, (p .1 .0, (p .1 .1, (a .before .before .before .book-map .ensures .0, (a .before .before .book-map2 .ensures .0, (a .before .line-count .ensures .0, omega (arith, a .index .ensures, c .before .if1 .left)))))))
 
-same-length : tie.Need-same-length
-same-length c = search needs
-
 returns-2 : tie.Need-returns-2
 returns-2 c =
     let a = c .before .before .before .before .before in
@@ -82,13 +61,13 @@ pub report-accepted-spec : {M : Type 1} → statement M
 report-accepted-spec =
     tie.close
     (tie.spec
-    book-map-requires
-    book-map-requires-2
-    line-count-requires
-    index-requires
-    mul-needed
-    add-needed
+    (λ c κs. search needs)
+    (λ c κs. search needs)
+    (λ c κs. search needs)
+    (λ c κs. search needs)
+    (λ c. search needs)
+    (λ c. search needs)
     returns
     write-report-requires
-    same-length
+    (λ c. search needs)
     returns-2)

@@ -9,26 +9,8 @@ use Rattle.lines.specs.Amounts.{three-stores}
 use Rattle.report.proofs.whole.write_maps.Statement.{statement}
 use Rattle.report.proofs.whole.write_maps.Tie as tie
 
-word-requires : tie.Need-word-requires
-word-requires c κs = search needs
-
-slice-write-memory : tie.Need-slice-write-memory
-slice-write-memory c = search needs
-
-word-requires-2 : tie.Need-word-requires-2
-word-requires-2 c κs = search needs
-
 slice-write-memory-2 : tie.Need-slice-write-memory-2
 slice-write-memory-2 c = simp length-set (omega arith)
-
-word-requires-3 : tie.Need-word-requires-3
-word-requires-3 c κs = search needs
-
-slice-write-memory-3 : tie.Need-slice-write-memory-3
-slice-write-memory-3 c = search needs
-
-same-length : tie.Need-same-length
-same-length c = search needs
 
 returns : tie.Need-returns
 returns c =
@@ -40,11 +22,11 @@ pub write-maps-spec : {M : Type 1} → statement M
 write-maps-spec =
     tie.close
     (tie.spec
-    word-requires
-    slice-write-memory
-    word-requires-2
+    (λ c κs. search needs)
+    (λ c. search needs)
+    (λ c κs. search needs)
     slice-write-memory-2
-    word-requires-3
-    slice-write-memory-3
-    same-length
+    (λ c κs. search needs)
+    (λ c. search needs)
+    (λ c. search needs)
     returns)

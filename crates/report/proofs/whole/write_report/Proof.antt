@@ -65,15 +65,6 @@ write-book-requires c κs =
     let p = s .pre in
     (p .0, (p .1 .0, (omega arith, (p .1 .1 .0, (p .1 .1 .1 .0, (omega arith, omega (arith, room s, c .before .before .before .write-maps .kept .0)))))))
 
-index-requires : tie.Need-index-requires
-index-requires c κs = search needs
-
-mul-write-book : tie.Need-mul-write-book
-mul-write-book c = search needs
-
-add-write-book : tie.Need-add-write-book
-add-write-book c = search needs
-
 module _ (c : tie.After-write-book) where
   -- header, maps and the ordinary lines
   ordinary-put : c .write-book .last .1 .1 .1 .1 .1 .1 .0 ≡ put 0 (first (c .before .before .before .before .before .before .before .before) ++ bookLines (d (c .before .before .before .before .before .before .before .before)) (n (c .before .before .before .before .before .before .before .before)) (v (c .before .before .before .before .before .before .before .before)) 0) (m (c .before .before .before .before .before .before .before .before))
@@ -148,18 +139,6 @@ add-requires c κs =
     let w = c .before .before in
     fits-by (λ i. owed-is w i +ℤ failed-is w i) (account-small (d (o w)) (n (o w)) (v (o w)) (o w .pre .0) (o w .pre .1 .0))
 
-index-requires-2 : tie.Need-index-requires-2
-index-requires-2 c κs = search needs
-
-mul-write-headed-at : tie.Need-mul-write-headed-at
-mul-write-headed-at c = search needs
-
-add-write-headed-at : tie.Need-add-write-headed-at
-add-write-headed-at c = search needs
-
-slice-aggregate-write-headed-at : tie.Need-slice-aggregate-write-headed-at
-slice-aggregate-write-headed-at c = search needs
-
 -- the three totals as they are handed on
 totals-are : (c : tie.After-add) → (toZ w64 (ofZ w64 (c .before .before .before .before .before .before .before .before .write-book .result)) ∷ toZ w64 (ofZ w64 (c .before .before .before .write-book2 .result)) ∷ toZ w64 (ofZ w64 (c .add .result)) ∷ []) ≡ totals (d (o (c .before .before .before))) (n (o (c .before .before .before))) (v (o (c .before .before .before)))
 unfolding totals
@@ -172,9 +151,6 @@ write-headed-at-requires : tie.Need-write-headed-at-requires
 write-headed-at-requires c κs =
     let w = c .before .before .before .before .before .before in
     ((omega arith, omega arith), (omega (arith, c .before .index2 .ensures, both-kept w, o w .pre .1 .1 .1 .1 .1 .1), rw (totals-are (c .before .before .before)) (small w)))
-
-same-length : tie.Need-same-length
-same-length c = search needs
 
 returns : tie.Need-returns
 returns c =
@@ -196,15 +172,15 @@ write-report-spec =
     (tie.spec
     write-maps-requires
     write-book-requires
-    index-requires
-    mul-write-book
-    add-write-book
+    (λ c κs. search needs)
+    (λ c. search needs)
+    (λ c. search needs)
     write-book-requires-2
     add-requires
-    index-requires-2
-    mul-write-headed-at
-    add-write-headed-at
-    slice-aggregate-write-headed-at
+    (λ c κs. search needs)
+    (λ c. search needs)
+    (λ c. search needs)
+    (λ c. search needs)
     write-headed-at-requires
-    same-length
+    (λ c. search needs)
     returns)

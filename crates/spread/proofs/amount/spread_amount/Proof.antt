@@ -12,6 +12,7 @@ use Rattle.spread.specs.Sides.{spreadAmount}
 use Rattle.spread.specs.Laws.{twice-size, far-size, near-margin, far-margin, spread-fits}
 use Rattle.spread.proofs.amount.spread_amount.Statement.{statement}
 use Rattle.spread.proofs.amount.spread_amount.Tie as tie
+use Rattle.model.specs.Limits.{contractsLimit, priceLimit}
 
 module _ (c : tie.Start) where
   abbrev e : ℤ
@@ -56,7 +57,7 @@ sum-is c =
 
 -- a law of the sizes on the way, at the function's arguments
 abbrev at : {R : ℤ → ℤ → ℕ → ℕ → Type 0}
-    → ((e q : ℤ) (r₁ r₂ : ℕ) → natAbs e ≤ 2560000000 → natAbs q ≤ 2560000000 → r₁ ≤ 500000000 → r₂ ≤ 500000000 → R e q r₁ r₂)
+    → ((e q : ℤ) (r₁ r₂ : ℕ) → natAbs e ≤ contractsLimit → natAbs q ≤ contractsLimit → r₁ ≤ priceLimit → r₂ ≤ priceLimit → R e q r₁ r₂)
     → (c : tie.Start) → R (e c) (q c) (c .args .near-rate) (c .args .far-rate)
 at law c = law (e c) (q c) (c .args .near-rate) (c .args .far-rate) (c .pre .0) (c .pre .1) (c .pre .2) (c .pre .3)
 

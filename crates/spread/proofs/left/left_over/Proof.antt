@@ -1,11 +1,12 @@
 use borrow.Author.Needs.{needs}
 use native.Mathlib.Omega.{arith}
 use mathlib.Core.Path.{_≡_, ap, _∙_}
-use Prim.Native.Nat.{_≤_}
+use Prim.Native.Nat.{_≤_, _*_}
 use lib.IntN.{ℤ, pos, natAbs, _-ℤ_}
 use mir.Syntax.{w64}
 use mir.Val.{toZ, ofZ}
 use mir.Facts.{toZ-ofZ}
+use Rattle.model.specs.Limits.{contractsLimit}
 use Rattle.numbers.specs.Abs.{told, fits-by}
 use Rattle.numbers.specs.Extremes.{minZ, maxZ}
 use Rattle.model.specs.Steps.Spread.{leftOver}
@@ -36,7 +37,7 @@ left-is c =
     let rest = told (c .before .larger .ok) (c .before .larger .ensures ∙ ap (λ x. maxZ x (pos 0)) (told (c .before .before .sub .ok) (c .before .before .sub .ensures ∙ rest-is a))) in
     λ i. size-is i -ℤ told (c .smaller .ok) (c .smaller .ensures ∙ (λ j. minZ (size-is j) (rest j))) i
 
-small : (c : tie.Start) → natAbs (leftOver (q c) (b c) (z c)) ≤ 7680000000
+small : (c : tie.Start) → natAbs (leftOver (q c) (b c) (z c)) ≤ 3 * contractsLimit
 small c = left-size (q c) (b c) (z c) (c .pre .0) (c .pre .1) (c .pre .2)
 
 pub left-over-spec : {M : Type 1} → statement M

@@ -1,13 +1,14 @@
 use borrow.Author.Needs.{needs}
 use native.Mathlib.Omega.{arith}
 use mathlib.Core.Path.{_≡_, refl, ap, _∙_}
-use Prim.Native.Nat.{_≤_}
+use Prim.Native.Nat.{_≤_, _*_}
 use lib.IntN.{ℤ, negℤ, natAbs, _-ℤ_}
 use mir.Syntax.{w64}
 use mir.Val.{toZ, ofZ}
 use mir.Facts.{toZ-ofZ}
 use Rattle.numbers.specs.Abs.{told, back, fits-by, natAbs--, natAbs-neg}
 use Rattle.numbers.specs.Extremes.{max-zero-abs}
+use Rattle.model.specs.Limits.{contractsLimit}
 use Rattle.model.specs.Steps.Spread.{shortSide, longSide, leftOver}
 use Rattle.spread.specs.Sides.{nonSpreadOf}
 use Rattle.spread.specs.Laws.{left-size}
@@ -21,10 +22,10 @@ module _ (c : tie.Start) where
   abbrev z : ℤ
   z = c .args .net
 
-  short-small : natAbs (shortSide z) ≤ 2560000000
+  short-small : natAbs (shortSide z) ≤ contractsLimit
   short-small = omega (arith, max-zero-abs z, c .pre .3)
 
-  long-small : natAbs (longSide z) ≤ 2560000000
+  long-small : natAbs (longSide z) ≤ contractsLimit
   long-small = omega (arith, max-zero-abs (negℤ z), natAbs-neg z, c .pre .3)
 
   net-is : toZ w64 (ofZ w64 z) ≡ z
@@ -36,7 +37,7 @@ module _ (c : tie.Start) where
   long-before : toZ w64 (ofZ w64 (c .args .before .long)) ≡ c .args .before .long
   long-before = back refl (omega (arith, c .pre .2))
 
-  small : natAbs (nonSpreadOf q (c .args .before .short) (c .args .before .long) z) ≤ 15360000000
+  small : natAbs (nonSpreadOf q (c .args .before .short) (c .args .before .long) z) ≤ 6 * contractsLimit
   small =
       omega (
         arith,

@@ -25,8 +25,8 @@ loop-holds c =
     let x = b .args in
     (search needs, search needs, spot-start (x .day .now) (entry (x .nets .now)) (x .book) (x .c) (x .a) (x .b) (b .pre .1 .1))
 
-size-requires : tie.Need-size-requires Inv-loop μ-loop
-size-requires c κs =
+absolute-requires : tie.Need-absolute-requires Inv-loop μ-loop
+absolute-requires c κs =
     let l = c .before .before .before .before in
     let b = l .before .before in
     rw (told (c .position-amount .ok) (c .position-amount .ensures))
@@ -37,7 +37,7 @@ returns c =
     let l = c .before .before .before .before .before in
     let b = l .before .before in
     let x = b .args in
-    told (c .size .ok) (c .size .ensures ∙ ap absZ (told (c .before .position-amount .ok) (c .before .position-amount .ensures)))
+    told (c .absolute .ok) (c .absolute .ensures ∙ ap absZ (told (c .before .position-amount .ok) (c .before .position-amount .ensures)))
     ∙ spot-hit (x .day .now) (entry (x .nets .now)) (x .book) (x .c) (x .a) (x .b) (b .pre .1 .1) (l .loop .s) _ (l .loop .inv .0) (omega arith)
     (l .loop .inv .2) (c .before .before .before .held-future .ensures) (c .before .before .if1 .taken)
 
@@ -68,7 +68,7 @@ spot-size-spec =
     loop-holds
     (λ c κs. search needs)
     (λ c κs. search needs)
-    size-requires
+    absolute-requires
     returns
     (λ c. search needs)
     (λ c. search needs)

@@ -9,12 +9,13 @@ use Rattle.numbers.specs.Abs.{told, fits-by, natAbs-*-le}
 use Rattle.numbers.specs.Extremes.{absZ}
 use Rattle.steps.proofs.minimum.type_minimum.Statement.{statement}
 use Rattle.steps.proofs.minimum.type_minimum.Tie as tie
+use Rattle.model.specs.Limits.{contractsLimit, priceLimit}
 
 product-is : (c : tie.After-signed)
-    → toZ w64 (ofZ w64 (c .before .size .result)) *ℤ toZ w64 (ofZ w64 (c .signed .result)) ≡ absZ (c .before .before .args .net) *ℤ pos (c .before .before .args .rate)
+    → toZ w64 (ofZ w64 (c .before .absolute .result)) *ℤ toZ w64 (ofZ w64 (c .signed .result)) ≡ absZ (c .before .before .args .net) *ℤ pos (c .before .before .args .rate)
 product-is c =
     let z = c .before in
-    λ i. told (z .size .ok) (z .size .ensures ∙ ap absZ (toZ-ofZ (z .before .fits .net))) i *ℤ told (c .signed .ok) (c .signed .ensures) i
+    λ i. told (z .absolute .ok) (z .absolute .ensures ∙ ap absZ (toZ-ofZ (z .before .fits .net))) i *ℤ told (c .signed .ok) (c .signed .ensures) i
 
 pub type-minimum-spec : {M : Type 1} → statement M
 type-minimum-spec =
@@ -24,5 +25,5 @@ type-minimum-spec =
     (λ c κs. search needs)
     (λ c κs.
     let x = c .before .before in
-    fits-by (product-is c) (omega (arith, natAbs-*-le (absZ (x .args .net)) (pos (x .args .rate)) 2560000000 500000000 (x .pre .0) (x .pre .1))))
+    fits-by (product-is c) (omega (arith, natAbs-*-le (absZ (x .args .net)) (pos (x .args .rate)) contractsLimit priceLimit (x .pre .0) (x .pre .1))))
     (λ c. told (c .mul .ok) (c .mul .ensures ∙ product-is (c .before))))

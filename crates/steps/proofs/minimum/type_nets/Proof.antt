@@ -45,9 +45,9 @@ loop-holds p =
     let x = p .before in
     (search needs, search needs, types-start (d x) (n x) (k x) (c x) (x .args .a) (x .args .b) (r x))
 
-kind-is : (p : tie.After-index Inv-loop μ-loop)
+type-is : (p : tie.After-index Inv-loop μ-loop)
     → p .index .result ≡ (let l = p .before .before .before in seriesType (d (l .before .before)) (l .loop .s))
-kind-is p = p .index .ensures ∙ p .before .series-type .ensures
+type-is p = p .index .ensures ∙ p .before .series-type .ensures
 
 -- the sum of the type with the series at hand
 next-is : (p : tie.After-position-amount Inv-loop μ-loop)
@@ -58,7 +58,7 @@ next-is p =
     let l = p .before .before .before .before .before in
     let x = l .before .before in
     λ i. told (p .before .was .given)
-    ((λ j. getD (l .loop .inv .2 j) (kind-is (p .before .before) j) (pos 0))
+    ((λ j. getD (l .loop .inv .2 j) (type-is (p .before .before) j) (pos 0))
     ∙ getD-tabulate 16 (typeTo (d x) (n x) (k x) (c x) (l .loop .s)) (seriesType (d x) (l .loop .s)) (pos 0) (omega arith)) i
     +ℤ told (p .position-amount .ok) (p .position-amount .ensures) i
 
@@ -84,7 +84,7 @@ loop-again p =
     let x = l .before .before in (
       search needs,
       search needs,
-      (λ i. set (l .loop .inv .2 i) (kind-is (b .before .before) i) (told (p .add .ok) (p .add .ensures ∙ next-is b) i))
+      (λ i. set (l .loop .inv .2 i) (type-is (b .before .before) i) (told (p .add .ok) (p .add .ensures ∙ next-is b) i))
           ∙ types-turn (d x) (n x) (k x) (c x) (x .args .a) (x .args .b) (r x) (l .loop .s) (l .loop .inv .0) (omega arith),
     )
 

@@ -6,8 +6,9 @@ use lib.IntN.{ℤ, pos, natAbs, _-ℤ_}
 use mir.Syntax.{w64}
 use mir.Val.{toZ, ofZ}
 use Rattle.numbers.specs.Abs.{told, fits-by}
+use Rattle.model.specs.Limits.{priceLimit}
 use Rattle.model.specs.DayFile.{underlying, strike}
-use Rattle.model.specs.Steps.Classes.{turned}
+use Rattle.model.specs.Steps.Classes.{signedByType}
 use Rattle.steps.specs.Laws.{money-size}
 use Rattle.steps.proofs.premium.in_the_money.Statement.{statement}
 use Rattle.steps.proofs.premium.in_the_money.Tie as tie
@@ -16,7 +17,7 @@ module _ (x : tie.Start) where
   abbrev money : ℤ
   money = pos (underlying (x .args .day .now) (x .args .c)) -ℤ pos (strike (x .args .day .now) (x .args .s))
 
-  small : natAbs money ≤ 500000000
+  small : natAbs money ≤ priceLimit
   small = money-size (x .args .day .now) (x .pre .0 .rows) (x .args .c) (x .args .s) (x .pre .1 .0) (x .pre .1 .1) .0
 
 money-is : (c : tie.After-series-type)
@@ -42,4 +43,4 @@ in-the-money-spec =
     (λ c κs. search needs)
     (λ c κs. fits-by (money-is c) (omega (arith, small (c .before .before .before .before .before .before))))
     (λ c κs. rw (sub-is c) (omega (arith, small (c .before .before .before .before .before .before .before))))
-    (λ c. told (c .turned .ok) (c .turned .ensures ∙ (λ i. turned (c .before .before .series-type .ensures i) (sub-is (c .before) i)))))
+    (λ c. told (c .signed-by-type .ok) (c .signed-by-type .ensures ∙ (λ i. signedByType (c .before .before .series-type .ensures i) (sub-is (c .before) i)))))

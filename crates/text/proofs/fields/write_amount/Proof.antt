@@ -13,21 +13,12 @@ use Rattle.text.specs.Texts.{amount-small}
 use Rattle.text.proofs.fields.write_amount.Statement.{statement}
 use Rattle.text.proofs.fields.write_amount.Tie as tie
 
-amount-at-requires : tie.Need-amount-at-requires
-amount-at-requires c κs = search needs
-
-write-byte-requires : tie.Need-write-byte-requires
-write-byte-requires c κs = search needs
-
 write-signed-requires : tie.Need-write-signed-requires
 write-signed-requires c κs =
     let s = c .before .before .before .before .before .before .before .before in
     let w = c .before .before .before .write-byte in
     let a = c .before .before .before .before .before .amount-at in
     (omega (arith, w .ensures .0, w .kept .0, s .pre .0), rw (told (a .ok) (a .ensures)) (amount-small (getD (now (s .args .report)) (s .args .i) 0) (getD (now (s .args .report)) (s .args .i + 1) 0) (getD (now (s .args .report)) (s .args .i + 2) 0)))
-
-same-length : tie.Need-same-length
-same-length c = search needs
 
 returns : tie.Need-returns
 returns c =
@@ -41,4 +32,4 @@ returns c =
 pub write-amount-spec : {M : Type 1} → statement M
 write-amount-spec =
     tie.close
-    (tie.spec amount-at-requires write-byte-requires write-signed-requires same-length returns)
+    (tie.spec (λ c κs. search needs) (λ c κs. search needs) write-signed-requires (λ c. search needs) returns)

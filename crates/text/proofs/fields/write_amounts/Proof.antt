@@ -32,23 +32,11 @@ loop-holds c =
     let s = c .before .before .args in
     rw (fields-none (now (s .report)) (s .i)) (omega arith, (omega arith, sym (put-none (s .at) (now (s .out)))))
 
-mul-write-amount : tie.Need-mul-write-amount Inv-loop μ-loop
-mul-write-amount c = search needs
-
-add-write-amount : tie.Need-add-write-amount Inv-loop μ-loop
-add-write-amount c = search needs
-
 write-amount-requires : tie.Need-write-amount-requires Inv-loop μ-loop
 write-amount-requires c κs =
     let l = c .before .before in
     let s = l .before .before .before in
     (omega (arith, long l, l .loop .inv .1 .0, fields-length (now (s .args .report)) (s .args .i) (l .loop .k), s .pre .0), omega (arith, s .pre .1, s .pre .2))
-
-add-k : tie.Need-add-k Inv-loop μ-loop
-add-k c = search needs
-
-loop-less : tie.Need-loop-less Inv-loop μ-loop
-loop-less c = search needs
 
 loop-again : tie.Need-loop-again Inv-loop μ-loop
 loop-again c =
@@ -78,11 +66,11 @@ write-amounts-spec =
     Inv-loop
     μ-loop
     loop-holds
-    mul-write-amount
-    add-write-amount
+    (λ c. search needs)
+    (λ c. search needs)
     write-amount-requires
-    add-k
-    loop-less
+    (λ c. search needs)
+    (λ c. search needs)
     loop-again
     same-length
     returns)

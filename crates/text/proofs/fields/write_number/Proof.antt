@@ -8,15 +8,6 @@ use Rattle.text.specs.Digits.{decimal-length}
 use Rattle.text.proofs.fields.write_number.Statement.{statement}
 use Rattle.text.proofs.fields.write_number.Tie as tie
 
-write-byte-requires : tie.Need-write-byte-requires
-write-byte-requires c κs = search needs
-
-write-decimal-requires : tie.Need-write-decimal-requires
-write-decimal-requires c κs = search needs
-
-same-length : tie.Need-same-length
-same-length c = search needs
-
 returns : tie.Need-returns
 returns c =
     let s = c .before .before .before .before .before .before .before .before .before in
@@ -25,4 +16,4 @@ returns c =
 
 pub write-number-spec : {M : Type 1} → statement M
 write-number-spec =
-    tie.close (tie.spec write-byte-requires write-decimal-requires same-length returns)
+    tie.close (tie.spec (λ c κs. search needs) (λ c κs. search needs) (λ c. search needs) returns)

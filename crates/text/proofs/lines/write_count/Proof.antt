@@ -10,23 +10,11 @@ use Rattle.text.specs.Digits.{decimal-length}
 use Rattle.text.proofs.lines.write_count.Statement.{statement}
 use Rattle.text.proofs.lines.write_count.Tie as tie
 
-slice-aggregate-write-head : tie.Need-slice-aggregate-write-head
-slice-aggregate-write-head c = search needs
-
-write-head-requires : tie.Need-write-head-requires
-write-head-requires c κs = search needs
-
-write-number-requires : tie.Need-write-number-requires
-write-number-requires c κs = search needs
-
 write-byte-requires : tie.Need-write-byte-requires
 write-byte-requires c κs =
     let n = c .before .before .before .write-number in
     let h = c .before .before .before .before .before .before .before .write-head in
     omega (arith, n .ensures .0, n .kept .0, h .ensures .0, h .kept .0, decimal-length (c .before .before .before .before .before .before .before .before .before .before .before .args .n), c .before .before .before .before .before .before .before .before .before .before .before .pre)
-
-same-length : tie.Need-same-length
-same-length c = search needs
 
 returns : tie.Need-returns
 unfolding countText
@@ -43,9 +31,9 @@ pub write-count-spec : {M : Type 1} → statement M
 write-count-spec =
     tie.close
     (tie.spec
-    slice-aggregate-write-head
-    write-head-requires
-    write-number-requires
+    (λ c. search needs)
+    (λ c κs. search needs)
+    (λ c κs. search needs)
     write-byte-requires
-    same-length
+    (λ c. search needs)
     returns)

@@ -13,25 +13,10 @@ use Rattle.text.specs.Texts.{headOf, head-length, fields-length, linePar
 use Rattle.text.proofs.lines.write_line.Statement.{statement}
 use Rattle.text.proofs.lines.write_line.Tie as tie
 
-word-at-requires : tie.Need-word-at-requires
-word-at-requires c κs = search needs
-
-payload-requires : tie.Need-payload-requires
-payload-requires c κs = search needs
-
-write-book-requires : tie.Need-write-book-requires
-write-book-requires c κs = search needs
-
-wide-requires : tie.Need-wide-requires
-wide-requires c κs = search needs
-
 write-number-requires : tie.Need-write-number-requires
 write-number-requires c κs =
     let b = c .before .before .before .before .write-book in
     omega (arith, b .ensures .0, b .kept .0, head-length (c .before .before .before .before .before .before .payload .result), c .before .before .before .before .before .before .before .before .before .before .pre .0)
-
-add-write-amounts : tie.Need-add-write-amounts
-add-write-amounts c = search needs
 
 write-amounts-requires : tie.Need-write-amounts-requires
 write-amounts-requires c κs =
@@ -49,9 +34,6 @@ write-byte-requires c κs =
     let b = c .before .before .before .before .before .before .before .before .before .before .before .before .write-book in
     let s = c .before .before .before .before .before .before .before .before .before .before .before .before .before .before .before .before .before .before in
     omega (arith, a .ensures .0, a .kept .0, n .ensures .0, n .kept .0, b .ensures .0, b .kept .0, head-length (c .before .before .before .before .before .before .before .before .before .before .before .before .before .before .payload .result), decimal-length (c .before .before .before .before .before .before .before .before .wide .result), fields-length (now (s .args .report)) (s .args .i + 1) 6, s .pre .0)
-
-same-length : tie.Need-same-length
-same-length c = search needs
 
 returns : tie.Need-returns
 returns c =
@@ -77,13 +59,13 @@ pub write-line-spec : {M : Type 1} → statement M
 write-line-spec =
     tie.close
     (tie.spec
-    word-at-requires
-    payload-requires
-    write-book-requires
-    wide-requires
+    (λ c κs. search needs)
+    (λ c κs. search needs)
+    (λ c κs. search needs)
+    (λ c κs. search needs)
     write-number-requires
-    add-write-amounts
+    (λ c. search needs)
     write-amounts-requires
     write-byte-requires
-    same-length
+    (λ c. search needs)
     returns)

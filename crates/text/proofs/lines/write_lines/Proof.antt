@@ -29,23 +29,11 @@ loop-holds c =
     let s = c .before .before .args in
     rw (lines-none (now (s .report))) (omega arith, (omega arith, sym (put-none (s .at) (now (s .out)))))
 
-mul-write-line : tie.Need-mul-write-line Inv-loop μ-loop
-mul-write-line c = search needs
-
-add-write-line : tie.Need-add-write-line Inv-loop μ-loop
-add-write-line c = search needs
-
 write-line-requires : tie.Need-write-line-requires Inv-loop μ-loop
 write-line-requires c κs =
     let l = c .before .before in
     let s = l .before .before .before in
     (omega (arith, long l, l .loop .inv .1 .0, lines-length (now (s .args .report)) (l .loop .k), s .pre .0), omega (arith, s .pre .1))
-
-add-k : tie.Need-add-k Inv-loop μ-loop
-add-k c = search needs
-
-loop-less : tie.Need-loop-less Inv-loop μ-loop
-loop-less c = search needs
 
 loop-again : tie.Need-loop-again Inv-loop μ-loop
 loop-again c =
@@ -75,11 +63,11 @@ write-lines-spec =
     Inv-loop
     μ-loop
     loop-holds
-    mul-write-line
-    add-write-line
+    (λ c. search needs)
+    (λ c. search needs)
     write-line-requires
-    add-k
-    loop-less
+    (λ c. search needs)
+    (λ c. search needs)
     loop-again
     same-length
     returns)

@@ -11,15 +11,6 @@ use Rattle.text.specs.Texts.{from-front}
 use Rattle.text.proofs.lines.write_refusal.Statement.{statement}
 use Rattle.text.proofs.lines.write_refusal.Tie as tie
 
-slice-aggregate-write-head : tie.Need-slice-aggregate-write-head
-slice-aggregate-write-head c = search needs
-
-write-head-requires : tie.Need-write-head-requires
-write-head-requires c κs = search needs
-
-write-number-requires : tie.Need-write-number-requires
-write-number-requires c κs = search needs
-
 write-number-requires-2 : tie.Need-write-number-requires-2
 write-number-requires-2 c κs =
     let n = c .before .before .before .write-number in
@@ -33,9 +24,6 @@ write-byte-requires c κs =
     let h = c .before .before .before .before .before .before .before .before .before .before .before .write-head in
     let s = c .before .before .before .before .before .before .before .before .before .before .before .before .before .before .before in
     omega (arith, p .ensures .0, p .kept .0, n .ensures .0, n .kept .0, h .ensures .0, h .kept .0, decimal-length (s .args .number), decimal-length (s .args .place), s .pre)
-
-same-length : tie.Need-same-length
-same-length c = search needs
 
 returns : tie.Need-returns
 unfolding refusalText
@@ -57,10 +45,10 @@ pub write-refusal-spec : {M : Type 1} → statement M
 write-refusal-spec =
     tie.close
     (tie.spec
-    slice-aggregate-write-head
-    write-head-requires
-    write-number-requires
+    (λ c. search needs)
+    (λ c κs. search needs)
+    (λ c κs. search needs)
     write-number-requires-2
     write-byte-requires
-    same-length
+    (λ c. search needs)
     returns)

@@ -13,21 +13,6 @@ use Rattle.text.specs.Texts.{from-front, lines-length, count-length, tot
 use Rattle.text.proofs.lines.write_report.Statement.{statement}
 use Rattle.text.proofs.lines.write_report.Tie as tie
 
-word-at-requires : tie.Need-word-at-requires
-word-at-requires c κs = search needs
-
-payload-requires : tie.Need-payload-requires
-payload-requires c κs = search needs
-
-index-requires : tie.Need-index-requires
-index-requires c κs = search needs
-
-wide-requires : tie.Need-wide-requires
-wide-requires c κs = search needs
-
-write-count-requires : tie.Need-write-count-requires
-write-count-requires c κs = search needs
-
 counted : (c : tie.After-write-lines-arg) → c .before .before .before .before .before .before .index .result ≡ countIn (now (c .before .before .before .before .before .before .before .before .before .before .before .args .report))
 counted c = c .before .before .before .before .before .before .index .ensures ∙ c .before .before .before .before .before .before .before .payload .ensures ∙ ap payload (c .before .before .before .before .before .before .before .before .word-at .ensures)
 
@@ -41,12 +26,6 @@ write-lines-requires c κs =
     let n : c .before .before .before .before .before .before .index .result ≤ 58 = few c in
     (omega (arith, k .ensures .0, k .kept .0, count-length (c .before .before .before .before .wide .result), s .pre .0), n)
 
-mul-write-totals : tie.Need-mul-write-totals
-mul-write-totals c = search needs
-
-add-write-totals : tie.Need-add-write-totals
-add-write-totals c = search needs
-
 write-totals-requires : tie.Need-write-totals-requires
 write-totals-requires c κs =
     let s = c .before .before .before .before .before .before .before .before .before .before .before .before .before .before .before in
@@ -54,9 +33,6 @@ write-totals-requires c κs =
     let k = c .before .before .before .before .before .before .before .write-count in
     let n : c .before .before .before .before .before .before .before .before .before .before .index .result ≤ 58 = few (c .before .before .before .before) in
     (omega (arith, l .ensures .0, l .kept .0, k .ensures .0, k .kept .0, count-length (c .before .before .before .before .before .before .before .before .wide .result), lines-length (now (s .args .report)) (c .before .before .before .before .before .before .before .before .before .before .index .result), s .pre .0), omega arith)
-
-same-length : tie.Need-same-length
-same-length c = search needs
 
 returns : tie.Need-returns
 unfolding reportText
@@ -80,14 +56,14 @@ pub write-report-spec : {M : Type 1} → statement M
 write-report-spec =
     tie.close
     (tie.spec
-    word-at-requires
-    payload-requires
-    index-requires
-    wide-requires
-    write-count-requires
+    (λ c κs. search needs)
+    (λ c κs. search needs)
+    (λ c κs. search needs)
+    (λ c κs. search needs)
+    (λ c κs. search needs)
     write-lines-requires
-    mul-write-totals
-    add-write-totals
+    (λ c. search needs)
+    (λ c. search needs)
     write-totals-requires
-    same-length
+    (λ c. search needs)
     returns)

@@ -10,24 +10,12 @@ use Rattle.text.specs.Texts.{fields-length}
 use Rattle.text.proofs.lines.write_totals.Statement.{statement}
 use Rattle.text.proofs.lines.write_totals.Tie as tie
 
-slice-aggregate-write-head : tie.Need-slice-aggregate-write-head
-slice-aggregate-write-head c = search needs
-
-write-head-requires : tie.Need-write-head-requires
-write-head-requires c κs = search needs
-
-write-amounts-requires : tie.Need-write-amounts-requires
-write-amounts-requires c κs = search needs
-
 write-byte-requires : tie.Need-write-byte-requires
 write-byte-requires c κs =
     let n = c .before .before .before .write-amounts in
     let h = c .before .before .before .before .before .before .before .write-head in
     let s = c .before .before .before .before .before .before .before .before .before .before .before .before in
     omega (arith, n .ensures .0, n .kept .0, h .ensures .0, h .kept .0, fields-length (now (s .args .report)) (s .args .i) 3, s .pre .0)
-
-same-length : tie.Need-same-length
-same-length c = search needs
 
 returns : tie.Need-returns
 unfolding totalsText
@@ -44,9 +32,9 @@ pub write-totals-spec : {M : Type 1} → statement M
 write-totals-spec =
     tie.close
     (tie.spec
-    slice-aggregate-write-head
-    write-head-requires
-    write-amounts-requires
+    (λ c. search needs)
+    (λ c κs. search needs)
+    (λ c κs. search needs)
     write-byte-requires
-    same-length
+    (λ c. search needs)
     returns)

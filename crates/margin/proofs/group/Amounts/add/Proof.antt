@@ -7,8 +7,9 @@ use mir.Val.{SFits, toZ, ofZ}
 use Rattle.numbers.specs.Abs.{told, back, fits-by, natAbs-+}
 use Rattle.margin.proofs.group.Amounts.add.Statement.{statement}
 use Rattle.margin.proofs.group.Amounts.add.Tie as tie
+use Rattle.model.specs.Limits.{mtmLimit}
 
-module _ (a b : ℤ) (h : natAbs a ≤ 2560000000000000000) (k : natAbs b ≤ 2560000000000000000) where
+module _ (a b : ℤ) (h : natAbs a ≤ mtmLimit) (k : natAbs b ≤ mtmLimit) where
   sum-is : toZ w64 (ofZ w64 a) +ℤ toZ w64 (ofZ w64 b) ≡ a +ℤ b
   sum-is = λ i. back {r = a} refl (omega arith) i +ℤ back {r = b} refl (omega arith) i
 

@@ -3,13 +3,14 @@ use native.Mathlib.Omega.{arith}
 use mathlib.Core.Path.{_≡_, refl, sym, ap, _∙_}
 use mathlib.Core.Bool.{Bool, true, false, cond}
 use mathlib.Core.List.{List}
-use Prim.Native.Nat.{ℕ, _≤_, _<_}
-use borrow.Author.Tests.{eq-eqb, ne-eqb}
+use Prim.Native.Nat.{ℕ, _≤_, _<_, _^_}
+use borrow.Author.Tests.{not-true, not-false}
 use lib.IntN.{ℤ, pos, negℤ, natAbs, _+ℤ_, +ℤ-idr}
 use mir.Syntax.{w64}
 use mir.Val.{toZ, ofZ}
 use Rattle.numbers.specs.Abs.{told, back, fits-by, natAbs-+, natAbs-neg}
 use Rattle.numbers.specs.Extremes.{max-zero-abs}
+use Rattle.model.specs.Limits.{contractsLimit}
 use Rattle.model.specs.DayFile.{seriesType, isFuture}
 use Rattle.model.specs.Netting.{position}
 use Rattle.model.specs.Steps.Spread.{shortSide, longSide}
@@ -25,13 +26,13 @@ module _ (c : tie.Start) where
   abbrev z : ℤ
   z = entry (c .args .nets .now) (position (c .args .book) 0 (c .args .s))
 
-  small : natAbs z ≤ 2560000000
+  small : natAbs z ≤ contractsLimit
   small = net-size d (c .args .nets .now) (c .pre .0) (c .args .book) 0 (c .args .s) (c .pre .1 .0 .0) (omega arith) (c .pre .1 .0 .1)
 
-  short-fits : natAbs (c .args .self .short +ℤ shortSide z) < 9223372036854775808
+  short-fits : natAbs (c .args .self .short +ℤ shortSide z) < 2 ^ 63
   short-fits = omega (arith, natAbs-+ (c .args .self .short) (shortSide z), max-zero-abs z, small, c .pre .1 .1 .0)
 
-  long-fits : natAbs (c .args .self .long +ℤ longSide z) < 9223372036854775808
+  long-fits : natAbs (c .args .self .long +ℤ longSide z) < 2 ^ 63
   long-fits = omega (arith, natAbs-+ (c .args .self .long) (longSide z), max-zero-abs (negℤ z), natAbs-neg z, small, c .pre .1 .1 .1)
 
   self-short : toZ w64 (ofZ w64 (c .args .self .short)) ≡ c .args .self .short
@@ -49,38 +50,38 @@ some x y t e = rw e
 
 returns : tie.Need-returns
 returns c =
-    let a = c .before .before .before in
-    let e = ne-eqb (seriesType (d a) (a .args .s)) 1 (λ q. c .if1 .taken (c .before .series-type .ensures ∙ q)) in
+    let b = c .before in
+    let e = ap isFuture (sym (b .before .series-type .ensures)) ∙ sym (b .is-future .ensures) ∙ not-true _ (c .if1 .taken) in
     (none _ _ _ e, none _ _ _ e)
 
-net-is : (c : tie.After-position-amount) → toZ w64 (ofZ w64 (c .position-amount .result)) ≡ z (c .before .before .before .before)
+net-is : (c : tie.After-position-amount) → toZ w64 (ofZ w64 (c .position-amount .result)) ≡ z (c .before .before .before .before .before)
 net-is c = told (c .position-amount .ok) (c .position-amount .ensures)
 
-short-is : (c : tie.After-short-side) → toZ w64 (ofZ w64 (c .short-side .result)) ≡ shortSide (z (c .before .before .before .before .before))
+short-is : (c : tie.After-short-side) → toZ w64 (ofZ w64 (c .short-side .result)) ≡ shortSide (z (c .before .before .before .before .before .before))
 short-is c = told (c .short-side .ok) (c .short-side .ensures ∙ ap shortSide (net-is (c .before)))
 
-long-is : (c : tie.After-long-side) → toZ w64 (ofZ w64 (c .long-side .result)) ≡ longSide (z (c .before .before .before .before .before .before .before .before))
+long-is : (c : tie.After-long-side) → toZ w64 (ofZ w64 (c .long-side .result)) ≡ longSide (z (c .before .before .before .before .before .before .before .before .before))
 long-is c = told (c .long-side .ok) (c .long-side .ensures ∙ ap longSide (net-is (c .before .before .before .before)))
 
 add-requires : tie.Need-add-requires
 add-requires c κs =
-    let a = c .before .before .before .before .before .before in
+    let a = c .before .before .before .before .before .before .before in
     fits-by (λ i. self-short a i +ℤ short-is (c .before) i) (short-fits a)
 
 long-side-requires : tie.Need-long-side-requires
-long-side-requires c κs = rw (net-is (c .before .before .before)) (omega (arith, small (c .before .before .before .before .before .before .before)))
+long-side-requires c κs = rw (net-is (c .before .before .before)) (omega (arith, small (c .before .before .before .before .before .before .before .before)))
 
 add-requires-2 : tie.Need-add-requires-2
 add-requires-2 c κs =
-    let a = c .before .before .before .before .before .before .before .before .before in
+    let a = c .before .before .before .before .before .before .before .before .before .before in
     fits-by (λ i. self-long a i +ℤ long-is (c .before) i) (long-fits a)
 
 returns-2 : tie.Need-returns-2
 returns-2 c =
-    let a = c .before .before .before .before .before .before .before .before .before .before in
-    let e : isFuture (seriesType (d a) (a .args .s)) ≡ true =
     let b = c .before .before .before .before .before .before .before in
-    eq-eqb (seriesType (d a) (a .args .s)) 1 (sym (b .before .series-type .ensures) ∙ b .if1 .left) in (
+    let a = b .before .before .before .before in
+    let e : isFuture (seriesType (d a) (a .args .s)) ≡ true =
+    ap isFuture (sym (b .before .before .series-type .ensures)) ∙ sym (b .before .is-future .ensures) ∙ not-false _ (b .if1 .left) in (
       told (c .before .before .before .add .ok) (c .before .before .before .add .ensures ∙ (λ i. self-short a i +ℤ short-is (c .before .before .before .before .before) i) ∙ some (a .args .self .short) (shortSide (z a)) _ e),
       told (c .add2 .ok) (c .add2 .ensures ∙ (λ i. self-long a i +ℤ long-is (c .before .before) i) ∙ some (a .args .self .long) (longSide (z a)) _ e),
     )
@@ -89,6 +90,7 @@ pub add-spec : {M : Type 1} → statement M
 add-spec =
     tie.close
     (tie.spec
+    (λ c κs. search needs)
     (λ c κs. search needs)
     returns
     (λ c κs. search needs)

@@ -8,8 +8,8 @@ use mir.Facts.{toZ-ofZ}
 use Rattle.numbers.specs.Abs.{back, fits-by}
 use Rattle.numbers.specs.Extremes.{absZ}
 use Rattle.amounts.specs.Size.{below, not-below}
-use Rattle.amounts.proofs.size.Statement.{statement}
-use Rattle.amounts.proofs.size.Tie as tie
+use Rattle.amounts.proofs.absolute.Statement.{statement}
+use Rattle.amounts.proofs.absolute.Tie as tie
 
 minus-is : (c : tie.Then1) → pos 0 -ℤ toZ w64 (ofZ w64 (c .before .args .a)) ≡ absZ (c .before .args .a)
 minus-is c =
@@ -23,5 +23,5 @@ returns-2 c =
     let h : ltZ (toZ w64 (ofZ w64 (c .before .args .a))) (pos 0) ≡ false = c .if1 .left in
     e ∙ not-below (c .before .args .a) (rw e at h)
 
-pub size-spec : {M : Type 1} → statement M
-size-spec = tie.close (tie.spec (λ c. fits-by (minus-is c) (c .before .pre)) (λ c. back (minus-is c) (c .before .pre)) returns-2)
+pub absolute-spec : {M : Type 1} → statement M
+absolute-spec = tie.close (tie.spec (λ c. fits-by (minus-is c) (c .before .pre)) (λ c. back (minus-is c) (c .before .pre)) returns-2)

@@ -6,9 +6,10 @@ use mir.Syntax.{w64}
 use mir.Val.{toZ, ofZ}
 use mir.Facts.{toZ-ofZ}
 use Rattle.numbers.specs.Abs.{told, fits-by, natAbs-pos-sub}
-use Rattle.points.specs.Added.{changeAmount, change-size}
-use Rattle.points.proofs.accumulator.change_amount.Statement.{statement}
-use Rattle.points.proofs.accumulator.change_amount.Tie as tie
+use Rattle.accumulator.specs.Added.{changeAmount, change-size}
+use Rattle.accumulator.proofs.change_amount.Statement.{statement}
+use Rattle.accumulator.proofs.change_amount.Tie as tie
+use Rattle.model.specs.Limits.{priceLimit}
 
 change-is : (c : tie.After-signed2)
     → toZ w64 (ofZ w64 (c .before .signed .result)) -ℤ toZ w64 (ofZ w64 (c .signed2 .result)) ≡ pos (c .before .before .args .price) -ℤ pos (c .before .before .args .base)
@@ -27,7 +28,7 @@ change-amount-spec =
     (λ c κs. search needs)
     (λ c κs.
     let a = c .before .before in
-    fits-by (change-is c) (omega (arith, natAbs-pos-sub (a .args .price) (a .args .base) 500000000 (a .pre .2) (a .pre .1))))
+    fits-by (change-is c) (omega (arith, natAbs-pos-sub (a .args .price) (a .args .base) priceLimit (a .pre .2) (a .pre .1))))
     (λ c κs.
     let a = c .before .before .before in
     fits-by (product-is c) (omega (arith, change-size (a .args .contracts) (a .args .base) (a .args .price) (a .pre .0) (a .pre .1) (a .pre .2))))

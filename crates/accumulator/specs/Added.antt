@@ -11,6 +11,7 @@ use lib.ListN.{length, getD}
 use Rattle.numbers.specs.Abs.{natAbs-+, natAbs-pos-sub, natAbs-*-le}
 use Rattle.numbers.specs.Filling.{tabulate-getD}
 use Rattle.numbers.specs.Table.{tabulate, getD-tabulate, tabulate-ext}
+use Rattle.model.specs.Limits.{worthLimit, runningLimit, contractsLimit, priceLimit}
 
 -- net × multiplier × change of the price
 abbrev pub changeAmount : ℤ → ℕ → ℕ → ℤ
@@ -23,9 +24,9 @@ addedAt at z base prices k = getD at k (pos 0) +ℤ changeAmount z base (getD pr
 abbrev pub added : List ℤ → ℤ → ℕ → List ℕ → List ℤ
 added at z base prices = tabulate 10 (addedAt at z base prices)
 
-pub change-size : (z : ℤ) (base price : ℕ) → natAbs z ≤ 2560000000 → base ≤ 500000000 → price ≤ 500000000
-    → natAbs (changeAmount z base price) ≤ 1280000000000000000
-change-size z base price h p q = natAbs-*-le z (pos price -ℤ pos base) 2560000000 500000000 h (natAbs-pos-sub price base 500000000 q p)
+pub change-size : (z : ℤ) (base price : ℕ) → natAbs z ≤ contractsLimit → base ≤ priceLimit → price ≤ priceLimit
+    → natAbs (changeAmount z base price) ≤ worthLimit
+change-size z base price h p q = natAbs-*-le z (pos price -ℤ pos base) contractsLimit priceLimit h (natAbs-pos-sub price base priceLimit q p)
 
 -- a position of no contracts adds none
 pub added-none : (z : ℤ) (at : List ℤ) (base : ℕ) (prices : List ℕ) → natAbs z ≤ 0 → length at ≡ 10 → at ≡ added at z base prices
@@ -41,9 +42,9 @@ pub is-none : (t : Bool) (z y : ℤ) → z ≡ y → t ≡ ltb 0 (natAbs z) → 
 is-none t z y e q h = ltb-false 0 (natAbs y) (ap (λ (x : ℤ). ltb 0 (natAbs x)) (sym e) ∙ sym q ∙ not-true t h)
 
 -- the amounts after one position
-pub added-size : (at : List ℤ) (z : ℤ) (base : ℕ) (prices : List ℕ) → natAbs z ≤ 2560000000 → base ≤ 500000000
-    → ((k : ℕ) → k < 10 → getD prices k 0 ≤ 500000000) → ((k : ℕ) → k < 10 → natAbs (getD at k (pos 0)) ≤ 1280000000000000000)
-    → (k : ℕ) → k < 10 → natAbs (getD (added at z base prices) k (pos 0)) ≤ 4000000000000000000
+pub added-size : (at : List ℤ) (z : ℤ) (base : ℕ) (prices : List ℕ) → natAbs z ≤ contractsLimit → base ≤ priceLimit
+    → ((k : ℕ) → k < 10 → getD prices k 0 ≤ priceLimit) → ((k : ℕ) → k < 10 → natAbs (getD at k (pos 0)) ≤ worthLimit)
+    → (k : ℕ) → k < 10 → natAbs (getD (added at z base prices) k (pos 0)) ≤ runningLimit
 added-size at z base prices h p q a k l =
     rw (getD-tabulate 10 (addedAt at z base prices) k (pos 0) l)
     (omega (

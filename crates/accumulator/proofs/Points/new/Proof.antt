@@ -1,7 +1,7 @@
 use lib.IntN.{pos}
 use Rattle.numbers.specs.Table.{replicate-tabulate}
-use Rattle.points.proofs.accumulator.Points.new.Statement.{statement}
-use Rattle.points.proofs.accumulator.Points.new.Tie as tie
+use Rattle.accumulator.proofs.Points.new.Statement.{statement}
+use Rattle.accumulator.proofs.Points.new.Tie as tie
 
 pub new-spec : {M : Type 1} → statement M
 new-spec = tie.close (tie.spec (λ c. replicate-tabulate 10 (pos 0)))

@@ -1,21 +1,22 @@
-// Ten running amounts, one for each point: D5 .. D1, U1 .. U5.
+// The accumulator of step 5: ten running amounts, one for each point, D5 .. D1, U1 .. U5; and the limits of what it adds.
 ghost use mathlib.Core.Path.{_≡_};
 ghost use Prim.Native.Nat.{ℕ, _≤_, _<_};
+ghost use lib.Dec.{ltb};
 ghost use lib.IntN.{pos, natAbs};
 ghost use lib.ListN.{getD};
 ghost use Rattle.numbers.specs.Table.{tabulate};
-ghost use Rattle.classes.specs.Limits.{contractsLimit, priceLimit, runningLimit};
-ghost use Rattle.points.specs.Added.{changeAmount, added};
+ghost use Rattle.model.specs.Limits.{priceLimit, positionLimit, contractsLimit, runningLimit};
+ghost use Rattle.accumulator.specs.Added.{changeAmount, added};
 
 // A position: net × multiplier, today's price, and the price at each point.
 pub struct Position {
     pub contracts: i64,
     pub base: u32,
-    pub prices: [u32; 10],
+    pub prices: [u32; Points::COUNT],
 }
 
 pub struct Points {
-    pub at: [i64; 10],
+    pub at: [i64; Points::COUNT],
 }
 
 // What a position adds at one point: net × multiplier × change of the price.
@@ -31,12 +32,26 @@ fn change_amount(contracts: i64, base: u32, price: u32) -> i64
 
 impl Points {
     pub const COUNT: usize = 10;
-    // The limits that `add` asks for: of a position's net × multiplier, of its prices, and of the amounts before.
-    pub const CONTRACTS_LIMIT: i64 = 2560000000;
 
-    pub const PRICE_LIMIT: u32 = 500000000;
+    // The largest price or rate that row 12 lets through.
+    const PRICE_LIMIT: u32 = 500000000;
 
-    pub const RUNNING_LIMIT: i64 = 4000000000000000000;
+    // The largest absolute net × multiplier that row 30 lets through.
+    const POSITION_LIMIT: u64 = 10000000;
+
+    // A price or rate above its limit.
+    pub fn price_too_large(price: u32) -> bool
+        ensures { λ r. ⌜ r ≡ ltb priceLimit price ⌝ }
+    {
+        Points::PRICE_LIMIT < price
+    }
+
+    // A position's absolute net × multiplier above its limit.
+    pub fn position_too_large(size: u64) -> bool
+        ensures { λ r. ⌜ r ≡ ltb positionLimit size ⌝ }
+    {
+        Points::POSITION_LIMIT < size
+    }
 
     // Ten zeros.
     pub fn new() -> Self

@@ -10,9 +10,10 @@ use mir.Syntax.{w64}
 use mir.Val.{toZ, ofZ}
 use Rattle.numbers.specs.Abs.{natAbs-+, fits-by, told, back}
 use Rattle.numbers.specs.Filling.{filled, tabulate-getD, filled-none, filled-at, filled-more, filled-all}
-use Rattle.points.specs.Added.{changeAmount, addedAt, change-size}
-use Rattle.points.proofs.accumulator.Points.add.Statement.{statement}
-use Rattle.points.proofs.accumulator.Points.add.Tie as tie
+use Rattle.accumulator.specs.Added.{changeAmount, addedAt, change-size}
+use Rattle.accumulator.proofs.Points.add.Statement.{statement}
+use Rattle.accumulator.proofs.Points.add.Tie as tie
+use Rattle.model.specs.Limits.{worthLimit}
 
 abbrev Inv-loop : tie.InvT-loop
 Inv-loop p next₀ k₀ next k =
@@ -40,7 +41,7 @@ module _ (c : tie.Start Inv-loop μ-loop) where
   contracts-is : toZ w64 (ofZ w64 (c .args .t2 .contracts)) ≡ c .args .t2 .contracts
   contracts-is = back refl (omega (arith, c .pre .0 .0))
 
-  small : (k : ℕ) → k < 10 → natAbs (change k) ≤ 1280000000000000000
+  small : (k : ℕ) → k < 10 → natAbs (change k) ≤ worthLimit
   small k h = change-size (c .args .t2 .contracts) (c .args .t2 .base) (getD (c .args .t2 .prices) k 0) (c .pre .0 .0) (c .pre .0 .1) (c .pre .0 .2 k h)
 
 loop-holds : tie.Need-loop-holds Inv-loop μ-loop
