@@ -203,7 +203,7 @@ pub fn all_lines() -> Account {
     let class = |group| Class { group, number: 2 * group, equity_rate: 100 + group, offset: 3 * group, ..Class::default() };
     let series = |group: u32| Series {
         class_number: 2 * group,
-        kind: EQUITY,
+        series_type: EQUITY,
         serial: group,
         multiplier: 1 + group,
         closing: 10_000 + group,
@@ -244,29 +244,29 @@ pub fn extreme(rng: &mut Rng) -> Account {
     let classes: Vec<Class> = (0..classes).map(|number| class(rng, number)).collect();
     let mut series: Vec<Series> = (0..256u32)
         .map(|i| {
-            let kind = if (1..=6).contains(&only) { only } else { 1 + i / 2 % 6 };
+            let series_type = if (1..=6).contains(&only) { only } else { 1 + i / 2 % 6 };
             Series {
                 class_number: i % classes.len() as u32,
-                kind,
-                expiry: if kind <= 3 { i } else { 0 },
-                serial: if kind >= 4 { i / 2 } else { 0 },
+                series_type,
+                expiry: if series_type <= 3 { i } else { 0 },
+                serial: if series_type >= 4 { i / 2 } else { 0 },
                 multiplier: rng.pick(&[1, 1, 1, 10_000]),
-                strike: if kind == 2 || kind == 3 { high(rng) } else { 0 },
+                strike: if series_type == 2 || series_type == 3 { high(rng) } else { 0 },
                 closing: high(rng),
                 theoretical: [0; 10].map(|_| high(rng)),
             }
         })
         .collect();
-    let place = |s: &Series| (s.class_number, s.kind, s.expiry, s.serial);
+    let place = |s: &Series| (s.class_number, s.series_type, s.expiry, s.serial);
     series.sort_by_key(place);
     series.dedup_by_key(|s| place(s));
     let mut records = Vec::new();
     for (i, s) in series.iter().enumerate() {
         let size = 10_000_000 / s.multiplier;
         let (long, short) = if down || rng.once_in(3) { (size, 0) } else { (0, size) };
-        let dvp = if s.kind < 4 { 0 } else { 5_000_000_000_000_000 * if short > 0 { -1 } else { 1 } };
-        let exercised = (s.kind == 2 || s.kind == 3) && rng.once_in(2);
-        let fail = s.kind >= 4 && groups > 1 && rng.once_in(2);
+        let dvp = if s.series_type < 4 { 0 } else { 5_000_000_000_000_000 * if short > 0 { -1 } else { 1 } };
+        let exercised = (s.series_type == 2 || s.series_type == 3) && rng.once_in(2);
+        let fail = s.series_type >= 4 && groups > 1 && rng.once_in(2);
         records.push(Record { series: i as u32, exercised, fail, long, short, dvp });
     }
     fields::account(&classes, &series, &records)
@@ -278,7 +278,7 @@ pub fn utmost() -> Account {
     let class = |number| Class { number, equity_rate: PRICE, ..Class::default() };
     let series = |i: u32| Series {
         class_number: i / 128,
-        kind: EQUITY,
+        series_type: EQUITY,
         serial: i % 128,
         multiplier: 1,
         closing: PRICE,

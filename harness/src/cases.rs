@@ -22,7 +22,7 @@ pub const ROWS: [u32; 16] = [10, 11, 12, 13, 14, 15, 16, 17, 20, 21, 22, 23, 24,
 /// One share, and so many records of it.
 pub fn with_records(records: usize) -> Account {
     let class = Class { group: 3, equity_rate: 10_000, ..Class::default() };
-    let series = Series { kind: EQUITY, multiplier: 1, closing: 400_000, theoretical: [400_000; 10], ..Series::default() };
+    let series = Series { series_type: EQUITY, multiplier: 1, closing: 400_000, theoretical: [400_000; 10], ..Series::default() };
     let record = Record { long: 3, short: 2, dvp: -390_000, ..Record::default() };
     fields::account(&[class], &[series], &vec![record; records])
 }
@@ -31,8 +31,14 @@ pub fn with_records(records: usize) -> Account {
 pub fn with_offset(offset: u32) -> Account {
     let class = |number, group, offset| Class { number, group, offset, equity_rate: 10_000, ..Class::default() };
     let theoretical = [390_000, 392_000, 394_000, 396_000, 398_000, 402_000, 404_000, 406_000, 408_000, 410_000];
-    let series =
-        |class_number| Series { class_number, kind: EQUITY, multiplier: 1, closing: 400_000, theoretical, ..Series::default() };
+    let series = |class_number| Series {
+        class_number,
+        series_type: EQUITY,
+        multiplier: 1,
+        closing: 400_000,
+        theoretical,
+        ..Series::default()
+    };
     let records = [Record { series: 0, long: 7, ..Record::default() }, Record { series: 1, short: 9, ..Record::default() }];
     fields::account(&[class(2, 3, 100), class(9, 28, offset)], &[series(2), series(9)], &records)
 }

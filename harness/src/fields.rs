@@ -29,7 +29,7 @@ pub struct Class {
 #[derive(Clone, Copy, Default)]
 pub struct Series {
     pub class_number: u32,
-    pub kind: u32,
+    pub series_type: u32,
     pub expiry: u32,
     pub serial: u32,
     pub multiplier: u32,
@@ -64,7 +64,7 @@ fn class_words(c: &Class) -> Vec<u32> {
 }
 
 fn series_words(s: &Series) -> Vec<u32> {
-    let key = s.serial | s.expiry << 7 | s.kind << 19 | s.class_number << 23;
+    let key = s.serial | s.expiry << 7 | s.series_type << 19 | s.class_number << 23;
     let mut out = vec![word(2, key), word(4, s.multiplier), word(3, s.strike), word(3, s.closing)];
     out.extend(s.theoretical.map(|p| word(3, p)));
     out

@@ -33,7 +33,7 @@ impl Day<'_> {
         payload(self.words[1 + 20 * self.classes + 14 * s + i])
     }
 
-    fn kind(&self, s: usize) -> u32 {
+    fn series_type(&self, s: usize) -> u32 {
         self.one(s, 0) >> 19 & 15
     }
 
@@ -84,7 +84,7 @@ impl Day<'_> {
         }
         for s in 0..self.series {
             let (key, strike) = (self.one(s, 0), self.one(s, 2));
-            let wrong = match self.kind(s) {
+            let wrong = match self.series_type(s) {
                 1 => key & 127 != 0 || strike != 0,
                 2 | 3 => key & 127 != 0,
                 4..=6 => strike != 0 || key >> 7 & 4095 != 0,
@@ -128,8 +128,8 @@ fn check_batch(day: &Day, batch: &[u32], records: usize) -> Option<(u64, usize)>
     if let Some(r) = (0..records).find(|&r| place(r) >= day.series) {
         return Some((23, r));
     }
-    let security = |r: usize| (4..=6).contains(&day.kind(place(r)));
-    let option = |r: usize| (2..=3).contains(&day.kind(place(r)));
+    let security = |r: usize| (4..=6).contains(&day.series_type(place(r)));
+    let option = |r: usize| (2..=3).contains(&day.series_type(place(r)));
     if let Some(r) = (0..records).find(|&r| record(r)[0] >> 8 & 1 == 1 && !option(r)) {
         return Some((24, r));
     }
@@ -161,7 +161,7 @@ fn class_sums(day: &Day, nets: &[i64; NETS], dvps: &[i64; NETS], book: usize, c:
     let price = |i: usize| i64::from(day.class(c, i));
     let net = |s: usize| nets[s + 512 * book];
     let (mut short, mut long, mut spot) = (0, 0, 0);
-    for s in range.clone().filter(|&s| day.kind(s) == 1) {
+    for s in range.clone().filter(|&s| day.series_type(s) == 1) {
         let n = net(s);
         if spot == 0 {
             spot = n.abs();
@@ -176,7 +176,7 @@ fn class_sums(day: &Day, nets: &[i64; NETS], dvps: &[i64; NETS], book: usize, c:
     let mut types = [0i64; 7];
     let mut points = [0i64; 10];
     for s in range {
-        let t = day.kind(s);
+        let t = day.series_type(s);
         let n = net(s);
         let done = nets[s + 256 + 512 * book];
         let m = i64::from(day.one(s, 1));

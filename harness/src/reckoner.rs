@@ -41,7 +41,7 @@ pub struct Series {
     pub key: u32,
     pub serial: u32,
     pub expiry: u32,
-    pub kind: u32,
+    pub series_type: u32,
     pub class_number: u32,
     pub multiplier: i128,
     pub strike: i128,
@@ -122,7 +122,7 @@ fn series_record(w: &[u32]) -> Option<Series> {
         key,
         serial: key & 127,
         expiry: key >> 7 & 4095,
-        kind: key >> 19 & 15,
+        series_type: key >> 19 & 15,
         class_number: key >> 23,
         multiplier: payload(w[1]) as i128,
         strike: payload(w[2]) as i128,
@@ -177,7 +177,7 @@ pub fn read_day(day: &[u32]) -> Result<DayFile, Refusal> {
         }
     }
     for (i, one) in series.iter().enumerate() {
-        let bad = match one.kind {
+        let bad = match one.series_type {
             1 => one.serial != 0 || one.strike != 0,
             2 | 3 => one.serial != 0,
             4..=6 => one.strike != 0 || one.expiry != 0,
@@ -238,14 +238,14 @@ pub fn read_batch(day: &DayFile, batch: &[u32]) -> Result<Vec<Record>, Refusal> 
     if let Some(i) = records.iter().position(|r| r.place >= day.series.len()) {
         return refuse(23, i);
     }
-    let kind_of = |r: &Record| day.series[r.place].kind;
-    if let Some(i) = records.iter().position(|r| r.exercised && !is_option(kind_of(r))) {
+    let type_of = |r: &Record| day.series[r.place].series_type;
+    if let Some(i) = records.iter().position(|r| r.exercised && !is_option(type_of(r))) {
         return refuse(24, i);
     }
-    if let Some(i) = records.iter().position(|r| r.fail && !is_security(kind_of(r))) {
+    if let Some(i) = records.iter().position(|r| r.fail && !is_security(type_of(r))) {
         return refuse(25, i);
     }
-    if let Some(i) = records.iter().position(|r| r.dvp != 0 && !is_security(kind_of(r))) {
+    if let Some(i) = records.iter().position(|r| r.dvp != 0 && !is_security(type_of(r))) {
         return refuse(26, i);
     }
     Ok(records)
@@ -310,7 +310,7 @@ fn line(day: &DayFile, positions: &BTreeMap<Key, Position>, fail: bool, group: u
     let mut points = [0i128; 10];
     for class in day.classes.iter().filter(|c| c.group == group) {
         let own: Vec<usize> = (0..day.series.len()).filter(|&s| day.series[s].class_number == class.number).collect();
-        let mut futures: Vec<usize> = own.iter().copied().filter(|&s| day.series[s].kind == 1).collect();
+        let mut futures: Vec<usize> = own.iter().copied().filter(|&s| day.series[s].series_type == 1).collect();
         futures.sort_by_key(|&s| day.series[s].expiry);
         let nets: Vec<i128> = futures.iter().map(|&s| at(s, false).net).collect();
         let (margin, rest) = spread(&nets, class);
@@ -321,18 +321,18 @@ fn line(day: &DayFile, positions: &BTreeMap<Key, Position>, fail: bool, group: u
             let one = &day.series[s];
             let open = at(s, false);
             let done = at(s, true);
-            let sign = if one.kind == 2 { 1 } else { -1 };
-            if is_security(one.kind) {
+            let sign = if one.series_type == 2 { 1 } else { -1 };
+            if is_security(one.series_type) {
                 mtm += open.net * one.multiplier * one.closing - open.dvp;
             }
-            if is_option(one.kind) {
+            if is_option(one.series_type) {
                 premium += open.net * one.multiplier * one.closing;
                 premium += done.net * one.multiplier * sign * (class.underlying - one.strike);
             }
             let counted = left.get(&s).copied().unwrap_or(open.net);
             for (k, point) in class_points.iter_mut().enumerate() {
                 *point += counted * one.multiplier * (one.theoretical[k] - one.closing);
-                if is_option(one.kind) {
+                if is_option(one.series_type) {
                     *point += done.net * one.multiplier * sign * (class.projected[k] - class.underlying);
                 }
             }
@@ -343,7 +343,7 @@ fn line(day: &DayFile, positions: &BTreeMap<Key, Position>, fail: bool, group: u
         let rates =
             [class.future_rate, class.option_rate, class.option_rate, class.equity_rate, class.warrant_rate, class.rights_rate];
         for (t, rate) in rates.iter().enumerate() {
-            let sum: i128 = own.iter().filter(|&&s| day.series[s].kind == t as u32 + 1).map(|&s| at(s, false).net).sum();
+            let sum: i128 = own.iter().filter(|&&s| day.series[s].series_type == t as u32 + 1).map(|&s| at(s, false).net).sum();
             minimum += sum.abs() * rate;
         }
     }

@@ -25,14 +25,14 @@ const INDEX_MOVES: [i64; 10] = [-75, -60, -45, -30, -15, 15, 30, 45, 60, 75];
 fn share() -> Account {
     let class = Class { group: 3, equity_rate: EURO, ..Class::default() };
     let theoretical = moved(40 * EURO, SHARE_MOVES);
-    let series = Series { kind: EQUITY, multiplier: 1, closing: 40 * EURO, theoretical, ..Series::default() };
+    let series = Series { series_type: EQUITY, multiplier: 1, closing: 40 * EURO, theoretical, ..Series::default() };
     account(&[class], &[series], &[Record { long: 200, dvp: -81_500_000, ..Record::default() }])
 }
 
 fn fail() -> Account {
     let class = Class { group: 3, underlying: 125_000, equity_rate: 2_500, offset: 85, ..Class::default() };
     let theoretical = moved(125_000, SHARE_MOVES);
-    let series = Series { kind: EQUITY, multiplier: 1, closing: 125_000, theoretical, ..Series::default() };
+    let series = Series { series_type: EQUITY, multiplier: 1, closing: 125_000, theoretical, ..Series::default() };
     let ordinary = Record { long: 1_000, dvp: -123_000_000, ..Record::default() };
     let failed = Record { short: 400, dvp: 48_800_000, fail: true, ..Record::default() };
     account(&[class], &[series], &[ordinary, failed])
@@ -52,7 +52,7 @@ fn spread() -> Account {
     };
     let months = [(3, 24_585), (6, 24_110), (9, 24_075), (12, 24_040)];
     let series = months.map(|(month, points)| Series {
-        kind: FUTURE,
+        series_type: FUTURE,
         expiry: expiry(2021, month),
         multiplier: 5,
         closing: points * EURO,
@@ -90,7 +90,7 @@ fn options() -> Account {
     };
     let call = |class_number, month, multiplier, strike, closing, theoretical| Series {
         class_number,
-        kind: CALL,
+        series_type: CALL,
         expiry: expiry(2021, month),
         multiplier,
         strike,
@@ -98,8 +98,10 @@ fn options() -> Account {
         theoretical,
         ..Series::default()
     };
-    let put =
-        Series { kind: PUT, ..call(1, 6, 500, 50_000, 1_010, [2_600, 2_190, 1_830, 1_520, 1_250, 810, 640, 500, 390, 300]) };
+    let put = Series {
+        series_type: PUT,
+        ..call(1, 6, 500, 50_000, 1_010, [2_600, 2_190, 1_830, 1_520, 1_250, 810, 640, 500, 390, 300])
+    };
     let series = [
         call(0, 6, 1_000, 28_000, 1_700, [420, 600, 810, 1_060, 1_360, 2_080, 2_510, 2_990, 3_520, 4_090]),
         call(1, 4, 5_000, 51_125, 1_564, [0, 0, 0, 89, 826, 2_302, 3_039, 3_777, 4_514, 5_252]),
@@ -117,7 +119,7 @@ fn options() -> Account {
 fn refused() -> Account {
     let class = Class { group: 5, underlying: 10_000, option_rate: 1_000, ..Class::default() };
     let series = [10_000, 11_000].map(|strike| Series {
-        kind: CALL,
+        series_type: CALL,
         expiry: expiry(2021, 9),
         multiplier: 10_000,
         strike,

@@ -9,6 +9,7 @@ use native.Mathlib.Omega.{arith}
 use borrow.Author.Tests.{eq-eqb, ne-eqb, leb-true, leb-false}
 use lib.Dec.{leb}
 use lib.IntN.{ℤ, pos, _+ℤ_}
+use Rattle.numbers.specs.Tests.{and-out, and-in}
 use Rattle.numbers.specs.declared.Found.{Found}
 use Rattle.numbers.specs.declared.Found.the-variants.{At, Nothing}
 use Rattle.numbers.specs.Scan.{firstBad, firstWhere, first-at, first-before, first-clear, first-none}
@@ -100,12 +101,6 @@ module _ (d : List ℕ) (c a b : ℕ) (r : Range d c a b) (t u : ℕ → Bool)
   scan-end h = first-same t b (seriesCount d) (r .end) h (λ s p q. out s (r .after s p q))
 
 -- ---- the tests of the model: of the class, and a test of the series
-
-pub and-out : (x y : Bool) → x ≡ false → (x && y) ≡ false
-and-out x y e = rw e
-
-pub and-in : (x y : Bool) → x ≡ true → (x && y) ≡ y
-and-in x y e = rw e
 
 module _ (d : List ℕ) (c a b : ℕ) (r : Range d c a b) (u : ℕ → Bool) (f : ℕ → ℤ) where
   abbrev pub upTo : ℕ → ℤ

@@ -3,17 +3,14 @@ use mathlib.Core.List.{List}
 use mathlib.Core.Path.{_≡_}
 use Prim.Native.Nat.{ℕ, _+_, _*_, _≤_, _<_}
 use native.Mathlib.Omega.{arith}
-use lib.IntN.{ℤ, pos}
-use lib.ListN.{length, getD}
+use lib.IntN.{ℤ}
+use lib.ListN.{length}
+pub use Rattle.numbers.specs.Table.{entry}
 use Rattle.model.specs.DayFile.{classCount, seriesCount}
 use Rattle.model.proofs.Accepted.{DayRows}
 use Rattle.model.proofs.Limits.{day-length}
 use Rattle.model.proofs.Nets.{few-series, few-classes}
 use Rattle.model.proofs.Records.{Budget}
-
--- a table as the function of positions
-abbrev pub entry : List ℤ → ℕ → ℤ
-entry t p = getD t p (pos 0)
 
 -- an accepted day file, and its counts
 pub record Day (d : List ℕ) : Type 0 where

@@ -12,9 +12,9 @@ use lib.Signed.{leZ, quotZ, remZ}
 use Rattle.numbers.specs.Extremes.{largest, maxZ}
 use Rattle.model.specs.Steps.Additional.{afterOffset}
 
-neg-mul : (a p : ℕ) → negℤ (pos a) *ℤ pos p ≡ negℤ (pos (a * p))
-neg-mul zero p = ap pos (zero-mul p) ∙ sym (ap (λ (n : ℕ). negℤ (pos n)) (zero-mul p))
-neg-mul (suc a) p = refl
+credit-mul : (a p : ℕ) → negℤ (pos a) *ℤ pos p ≡ negℤ (pos (a * p))
+credit-mul zero p = ap pos (zero-mul p) ∙ sym (ap (λ (n : ℕ). negℤ (pos n)) (zero-mul p))
+credit-mul (suc a) p = refl
 
 neg-quot : (a : ℕ) → quotZ (negℤ (pos a)) (pos 100) ≡ negℤ (pos (a / 100))
 neg-quot zero = refl
@@ -27,7 +27,7 @@ split x p =
 
 split-neg : (n p : ℕ) → quotZ (negsuc n) (pos 100) *ℤ pos p +ℤ quotZ (remZ (negsuc n) (pos 100) *ℤ pos p) (pos 100) ≡ quotZ (negsuc n *ℤ pos p) (pos 100)
 split-neg n p =
-    (λ i. neg-mul (suc n / 100) p i +ℤ (ap (λ (z : ℤ). quotZ z (pos 100)) (neg-mul (suc n % 100) p) ∙ neg-quot (suc n % 100 * p)) i)
+    (λ i. credit-mul (suc n / 100) p i +ℤ (ap (λ (z : ℤ). quotZ z (pos 100)) (credit-mul (suc n % 100) p) ∙ neg-quot (suc n % 100 * p)) i)
     ∙ sym (negℤ-+ℤ (pos (suc n / 100 * p)) (pos (suc n % 100 * p / 100)))
     ∙ ap (λ (m : ℕ). negℤ (pos m)) (split (suc n) p)
     ∙ sym (neg-quot (suc n * p))

@@ -19,9 +19,9 @@ use Rattle.model.specs.Netting.{position}
 use Rattle.model.specs.Steps.Positions.{held}
 use Rattle.model.specs.Steps.Lines.{heldIn, hasLine}
 use Rattle.model.proofs.Accepted.{DayRows}
-use Rattle.model.proofs.Tests.{and-left, and-right}
+use Rattle.numbers.specs.Tests.{and-left, and-right, and-out, and-in}
 use Rattle.model.proofs.Together.{class-below}
-use Rattle.classes.specs.Range.{startOf, cut, range, and-out, and-in}
+use Rattle.classes.specs.Range.{startOf, cut, range}
 
 -- the open or the exercised or assigned position of series s
 abbrev pub heldAt : (ℕ → ℤ) → (ℕ → ℤ) → ℕ → ℕ → Bool

@@ -12,7 +12,7 @@ use Rattle.model.specs.declared.Check.the-variants.{Bytes}
 use Rattle.model.specs.declared.BytesFault.the-variants.{DayFile, BatchFile}
 use Rattle.model.specs.Calls.{answer, report}
 use Rattle.model.specs.Bytes.{wordsOf, badBytes, row1, row2, bytesCheck, byteAnswer, bytesAfter, writtenBytes}
-use Rattle.model.proofs.Tests.{or-right}
+use Rattle.numbers.specs.Tests.{or-right}
 
 module _ (day batch : List ℕ) (room : ℕ) where
   pub day-refused : badBytes day 4865 ≡ true → Refused (Bytes DayFile 0) ≡ byteAnswer day batch room

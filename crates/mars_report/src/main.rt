@@ -5,15 +5,15 @@ ghost use lib.IntN.{pos};
 ghost use lib.Signed.{ltZ};
 use libc::STDOUT_FILENO;
 
-// An open descriptor that can be read; one that can't counts as a file not opened.
-fn readable(fd: i32) -> bool
+// Whether a file was opened and read whole: nothing is left behind what was read, or the buffer is full. Else it counts as not opened.
+fn was_read(fd: i32, full: bool) -> bool
     ensures { λ r. ⌜ (ltZ fd (pos 0) ≡ true → r ≡ false) ⌝ }
 {
     if fd < 0 {
         return false;
     }
-    let mut none = [0u8; 1];
-    libc::read(fd, &mut none[..0]) >= 0
+    let mut more = [0u8; 1];
+    full | (libc::read(fd, &mut more) == 0)
 }
 
 fn main() {
@@ -26,9 +26,9 @@ fn main() {
     let days = io::read_full(day_fd, &mut day);
     let positions = io::read_full(batch_fd, &mut batch);
     let n = program::print_files(
-        readable(day_fd),
+        was_read(day_fd, days == day.len()),
         &day[..days],
-        readable(batch_fd),
+        was_read(batch_fd, positions == batch.len()),
         &batch[..positions],
         &mut out,
     );

@@ -1,18 +1,20 @@
 -- What a reader may cite about the two calls, for all inputs: an index of the statements.
 use mathlib.Core.Path.{_≡_}
 use mathlib.Core.List.{List}
-use Prim.Native.Nat.{ℕ, _≤_}
+use Prim.Native.Nat.{ℕ, _/_, _≤_}
 use lib.ListN.{length}
 use Rattle.model.specs.declared.Answer.the-variants.{Refused}
 use Rattle.model.specs.declared.Check.{Check}
 use Rattle.model.specs.declared.Verdict.the-variants.{Passed}
-use Rattle.model.specs.Calls.{Accepted, answer, needed, memoryAfter}
+use Rattle.model.specs.Rows.{_orElse_}
+use Rattle.model.specs.Calls.{verdict, Accepted, answer, needed, memoryAfter}
 use Rattle.model.specs.Bytes.{wordsOf, bytesCheck, byteAnswer, bytesAfter}
 use Rattle.model.proofs.Untouched.{refused-writes-nothing, length-kept, bytes-refused-writes-nothing, bytes-length-kept}
 use Rattle.model.proofs.Written.{Written, accepted-writes}
 use Rattle.model.proofs.Readable.{Readable, readable}
 use Rattle.model.proofs.Totals.{Totals, totals-are-margins}
 use Rattle.model.proofs.ByteWords.{bytes-as-words}
+use Rattle.model.proofs.Numbers.{Numbers, byte-numbers, numbers as numbers-of}
 
 pub record Corollaries : Type 0 where
   -- a refusal leaves the memory as it was
@@ -25,11 +27,15 @@ pub record Corollaries : Type 0 where
   pub read : (d b m : List ℕ) → Accepted d b → needed d b ≤ length m → Readable d b (memoryAfter d b m)
   -- the totals read are sums of the lines' margins, whatever the residual credits
   pub totals : (d b m : List ℕ) → Accepted d b → needed d b ≤ length m → Totals (memoryAfter d b m)
+  -- the paper's number and value of the answer, and that the value is below 2 ^ 32
+  pub numbers : (d b : List ℕ) (room : ℕ) → Numbers (verdict d b) (needed d b) room (answer d b room)
 
 -- the byte call: the same of its refusals and its length; past rows 1 and 2 it is the call over words
 pub record ByteCorollaries : Type 0 where
   pub refused : (day b m : List ℕ) (k : Check) → byteAnswer day b (length m) ≡ Refused k → bytesAfter day b m ≡ m
   pub long : (day b m : List ℕ) → length (bytesAfter day b m) ≡ length m
+  pub numbers : (day b : List ℕ) (room : ℕ)
+      → Numbers (bytesCheck day b orElse verdict (wordsOf day) (wordsOf b)) (needed (wordsOf day) (wordsOf b)) (room / 4) (byteAnswer day b room)
   pub words : (day b m : List ℕ) → bytesCheck day b ≡ Passed → wordsOf (bytesAfter day b m) ≡ memoryAfter (wordsOf day) (wordsOf b) (wordsOf m)
 
 pub corollaries : Corollaries
@@ -40,7 +46,8 @@ corollaries =
       written = accepted-writes;
       read = readable;
       totals = totals-are-margins;
+      numbers = numbers-of;
     }
 
 pub byte-corollaries : ByteCorollaries
-byte-corollaries = record { refused = bytes-refused-writes-nothing; long = bytes-length-kept; words = bytes-as-words }
+byte-corollaries = record { refused = bytes-refused-writes-nothing; long = bytes-length-kept; numbers = byte-numbers; words = bytes-as-words }

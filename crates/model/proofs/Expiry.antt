@@ -5,11 +5,11 @@ use mathlib.Core.List.{List}
 use Prim.Native.Nat.{ℕ, suc, _+_, _*_, _-_, _%_, _^_, _≤_, _<_}
 use native.Mathlib.Decide.{le-ind, decLt}
 use native.Mathlib.Omega.{arith}
-use borrow.Author.Tests.{eqb-true, ltb-true, ltb-false, lt-ltb, le-leb}
+use borrow.Author.Tests.{eqb-true, ltb-true, ltb-false, lt-ltb, le-leb, not-false}
 use lib.Dec.{leb, ltb, eqb}
-use lib.Pow.{mod-pow-add}
 use native.Mathlib.Nat.{mod-eq-of-lt, le-of-eq}
 use lib.IntN.{ℤ}
+use Rattle.numbers.specs.Fields.{four-fields}
 use Rattle.numbers.specs.declared.Found.{Found}
 use Rattle.numbers.specs.declared.Found.the-variants.{At, Nothing}
 use Rattle.numbers.specs.Scan.{firstBad, first-at, first-before}
@@ -17,7 +17,7 @@ use Rattle.model.specs.Words.{bits}
 use Rattle.model.specs.DayFile.{classCount, classNumber, seriesCount, seriesKey, serial, expiry, seriesType, seriesClassNumber, strike, isFuture, isSecurity, foundClass, placeOr, seriesClass}
 use Rattle.model.specs.DayChecks.{row16, row17}
 use Rattle.model.specs.Steps.{notZero, ofClass, futureOf, openNet, heldFuture}
-use Rattle.model.proofs.Tests.{and-left, and-right, or-left, or-right, not-off}
+use Rattle.numbers.specs.Tests.{and-left, and-right, or-left, or-right}
 use Rattle.model.proofs.Accepted.{DayRows}
 
 -- key payload, then strike, as one number
@@ -40,7 +40,7 @@ module _ (d : List ℕ) (r : DayRows d) where
   next-lower s h =
       let e : suc s - 1 ≡ s = omega arith in
       let p : (ltb 0 (suc s) && not (lower s (suc s))) ≡ false = rw e at (r .at16 (suc s) h) in
-      not-off (lower s (suc s)) (rw (lt-ltb 0 (suc s) (omega arith)) at p)
+      not-false (lower s (suc s)) (rw (lt-ltb 0 (suc s) (omega arith)) at p)
 
   next-rank : (s : ℕ) → suc s < seriesCount d → rank d s < rank d (suc s)
   next-rank s h = higher (seriesKey d s) (seriesKey d (suc s)) (strike d s) (strike d (suc s)) (omega arith) (next-lower s h)
@@ -97,23 +97,13 @@ module _ (d : List ℕ) (r : DayRows d) where
         let q : ltb 0 (strike d s) ≡ false = rw f at p in
         omega (arith, ltb-false 0 (strike d s) q)
 
-sums : (a b c e p q u v x : ℕ) → p ≡ a * 2 ^ 23 + q → q ≡ b * 2 ^ 19 + u → u ≡ c * 2 ^ 7 + v → p ≡ x → e ≡ v
-    → a * 2 ^ 23 + b * 2 ^ 19 + c * 2 ^ 7 + e ≡ x
-sums a b c e p q u v x h₁ h₂ h₃ h₄ h₅ = omega arith
-
 -- two keys with the same class number and type, and serial 0
 by-expiry : (x y a b c e : ℕ) → x < y → a * 2 ^ 23 + b * 2 ^ 19 + c * 2 ^ 7 + 0 ≡ x → a * 2 ^ 23 + b * 2 ^ 19 + e * 2 ^ 7 + 0 ≡ y → c < e
 by-expiry x y a b c e h p q = omega arith
 
 -- a key by its fields
 fields : (x : ℕ) → x < 2 ^ 29 → bits x 23 6 * 2 ^ 23 + bits x 19 4 * 2 ^ 19 + bits x 7 12 * 2 ^ 7 + bits x 0 7 ≡ x
-fields x h =
-    let a : bits x 0 7 ≡ x % 2 ^ 7 = omega arith in
-    let e : x % 2 ^ 29 ≡ bits x 23 6 * 2 ^ 23 + x % 2 ^ 23 = mod-pow-add x 6 23 in
-    let f : x % 2 ^ 23 ≡ bits x 19 4 * 2 ^ 19 + x % 2 ^ 19 = mod-pow-add x 4 19 in
-    let i : x % 2 ^ 19 ≡ bits x 7 12 * 2 ^ 7 + x % 2 ^ 7 = mod-pow-add x 12 7 in
-    let m : x % 2 ^ 29 ≡ x = mod-eq-of-lt h in
-    sums (bits x 23 6) (bits x 19 4) (bits x 7 12) (bits x 0 7) (x % 2 ^ 29) (x % 2 ^ 23) (x % 2 ^ 19) (x % 2 ^ 7) x e f i m a
+fields x h = omega (arith, four-fields x 6 4 12 7 h)
 
 pub expiry-order : (d : List ℕ) (c s t : ℕ) → DayRows d → c < classCount d → s < t → t < seriesCount d
     → futureOf d c s ≡ true → futureOf d c t ≡ true → expiry d s < expiry d t

@@ -1,4 +1,3 @@
-pub mod Tests
 pub mod WordsBack
 pub mod Accepted
 pub mod Agreement
@@ -32,3 +31,4 @@ pub mod Corollaries
 pub mod Often
 pub mod Batches
 pub mod Places
+pub mod Numbers

@@ -5,7 +5,7 @@ use mathlib.Core.Logic.{_≢_}
 use mathlib.Core.List.{List}
 use Prim.Native.Nat.{ℕ, _+_, _*_, _-_, _≤_, _<_}
 use native.Mathlib.Omega.{arith}
-use borrow.Author.Tests.{lt-ltb, le-ltb, ltb-false, leb-false, eqb-true, eqb-false, ne-eqb}
+use borrow.Author.Tests.{lt-ltb, le-ltb, ltb-false, leb-false, eqb-true, eqb-false, ne-eqb, not-false}
 use lib.Dec.{ltb, eqb}
 use lib.IntN.{natAbs}
 use lib.ListN.{length}
@@ -18,7 +18,7 @@ use Rattle.model.specs.DayChecks.{badClassWord, badSeriesWord, badClass,
 use Rattle.model.specs.Batch.{batchHeader, recordCount, recordWord, key, place, long, short, dvpSize, dvpAmount}
 use Rattle.model.specs.BatchChecks.{badRecordWord, badDvp, row20, row21, row22, row23}
 use Rattle.model.specs.Netting.{net, row30}
-use Rattle.model.proofs.Tests.{or-left, or-right, not-off}
+use Rattle.numbers.specs.Tests.{or-left, or-right}
 use Rattle.model.proofs.Accepted.{DayRows, BatchChecks, BatchRows}
 use Rattle.model.proofs.Sizes.{size-amount}
 
@@ -86,7 +86,7 @@ module _ (d b : List ℕ) (r : BatchChecks d b) where
 
   pub batch-length : length b ≡ 1 + 6 * recordCount b
   unfolding row21
-  batch-length = eqb-true (length b) (1 + 6 * recordCount b) (not-off (eqb (length b) (1 + 6 * recordCount b)) (r .at21))
+  batch-length = eqb-true (length b) (1 + 6 * recordCount b) (not-false (eqb (length b) (1 + 6 * recordCount b)) (r .at21))
 
   module _ (q : ℕ) (h : q < recordCount b) where
     abbrev bad : ℕ → ℕ → ℕ → Bool
@@ -129,4 +129,4 @@ module _ (d b : List ℕ) (r : BatchRows d b) (q : ℕ) (h : q < recordCount b) 
 pub day-length : (d : List ℕ) → DayRows d → length d ≡ 1 + 20 * classCount d + 14 * seriesCount d
 unfolding row11
 day-length d r =
-    eqb-true (length d) (1 + 20 * classCount d + 14 * seriesCount d) (not-off (eqb (length d) (1 + 20 * classCount d + 14 * seriesCount d)) (r .at11))
+    eqb-true (length d) (1 + 20 * classCount d + 14 * seriesCount d) (not-false (eqb (length d) (1 + 20 * classCount d + 14 * seriesCount d)) (r .at11))

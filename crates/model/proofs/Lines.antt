@@ -15,7 +15,7 @@ use Rattle.numbers.specs.Extremes.{minZ, maxZ, absZ, largest-ext}
 use Rattle.model.specs.DayFile.{classCount, seriesCount, seriesType, seriesClass, seriesGroup, group, spotRate, nonSpotRate, offset, closing, isFuture}
 use Rattle.model.specs.Netting.{position}
 use Rattle.model.specs.Steps
-use Rattle.model.proofs.Tests.{and-left}
+use Rattle.numbers.specs.Tests.{and-left}
 
 -- the two families agree on the positions of group g in book k
 pub record Agree (d : List ℕ) (n₁ v₁ n₂ v₂ : ℕ → ℤ) (k g : ℕ) : Type 0 where

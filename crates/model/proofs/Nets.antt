@@ -4,7 +4,7 @@ use mathlib.Core.Bool.{Bool, false, not, _||_, cond}
 use mathlib.Core.List.{List, Perm}
 use Prim.Native.Nat.{ℕ, _<_, _≤_}
 use native.Mathlib.Omega.{arith}
-use borrow.Author.Tests.{eqb-true, ne-eqb, ltb-false}
+use borrow.Author.Tests.{eqb-true, ne-eqb, ltb-false, not-false}
 use lib.Dec.{eqb, ltb}
 use lib.IntN.{ℤ, pos, _-ℤ_}
 use lib.ListN.{length, getD}
@@ -16,7 +16,7 @@ use Rattle.model.specs.DayChecks.{row10}
 use Rattle.model.specs.Batch.{recordCount}
 use Rattle.model.specs.Netting.{position, net, dvp}
 use Rattle.model.specs.Locality.{recordAt, records, ofLine, struck, Edit}
-use Rattle.model.proofs.Tests.{and-left, and-right, or-left, or-right, not-off}
+use Rattle.numbers.specs.Tests.{and-left, and-right, or-left, or-right}
 use Rattle.model.proofs.Accepted.{DayRows}
 use Rattle.model.proofs.Lines.{Agree}
 
@@ -60,7 +60,7 @@ module _ (d : List ℕ) (g k : ℕ) (s x h : ℕ) (hs : s < 256) (hx : x < 2) (h
   apart : (w : List ℕ) → not (ofLine d g k w) ≡ false → eqb (keyOf w) (position h x s) ≡ false
   apart w e =
       let q : ℕ = payload (getD w 0 0) in
-      let o = not-off (ofLine d g k w) e in
+      let o = not-false (ofLine d g k w) e in
       let a = eqb-true (seriesGroup d (bits q 0 8)) g (and-left (eqb (seriesGroup d (bits q 0 8)) g) (eqb (bits q 9 1) k) o) in
       let c = eqb-true (bits q 9 1) k (and-right (eqb (seriesGroup d (bits q 0 8)) g) (eqb (bits q 9 1) k) o) in
       ne-eqb (keyOf w) (position h x s)

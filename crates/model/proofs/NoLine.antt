@@ -12,12 +12,12 @@ use Rattle.numbers.specs.declared.Found.the-variants.{At, Nothing}
 use Rattle.numbers.specs.Abs.{cond-ind}
 use Rattle.numbers.specs.Scan.{firstBad, first-clear}
 use Rattle.numbers.specs.Lists.{nothing-hit}
-use Rattle.numbers.specs.Sums.{sumTo-zero, sumTo-ext, sumWhere}
+use Rattle.numbers.specs.Sums.{sumTo-zero, sumTo-ext, sumWhere, sumWhere-zeros}
 use Rattle.numbers.specs.Extremes.{minZ, maxZ, absZ, largest, largest-ext}
 use Rattle.model.specs.DayFile.{classCount, group, spotRate, nonSpotRate, offset, seriesCount, seriesType, seriesGroup, multiplier, closing, isFuture}
 use Rattle.model.specs.Netting.{position}
 use Rattle.model.specs.Steps
-use Rattle.model.proofs.Tests.{or-left, or-right}
+use Rattle.numbers.specs.Tests.{or-left, or-right}
 use Rattle.model.proofs.Lines.{amounts-same}
 
 abbrev six : List ℤ
@@ -26,15 +26,6 @@ six = pos 0 ∷ pos 0 ∷ pos 0 ∷ pos 0 ∷ pos 0 ∷ pos 0 ∷ []
 no-size : (z : ℤ) → Steps.notZero z ≡ false → z ≡ pos 0
 no-size (pos n) e = ap pos (omega (arith, ltb-false 0 n e))
 no-size (negsuc n) e = absurd (omega (arith, ltb-false 0 (suc n) e))
-
--- the sum of zeros
-none-where : (n : ℕ) (t : ℕ → Bool) (f : ℕ → ℤ) → ((i : ℕ) → f i ≡ pos 0) → sumWhere n t f ≡ pos 0
-none-where n t f h =
-    sumTo-ext n (λ i. cond (t i) (f i) (pos 0)) (λ i. pos 0) (λ i p. by (t i) (f i) (h i)) ∙ sumTo-zero n
-  where
-    by : (b : Bool) (x : ℤ) → x ≡ pos 0 → cond b x (pos 0) ≡ pos 0
-    by true x e = e
-    by false x e = refl
 
 -- ---- every amount of a book without positions is zero
 
@@ -49,11 +40,11 @@ module _ (d : List ℕ) (k : ℕ) where
   -- both sides of a net of 0 are 0
   no-short : (c s : ℕ) → Steps.shortBefore d empty k c s ≡ pos 0
   unfolding Steps.shortBefore
-  no-short c s = none-where s (Steps.futureOf d c) _ (λ t. refl)
+  no-short c s = sumWhere-zeros s (Steps.futureOf d c) _ (λ t. refl)
 
   no-long : (c s : ℕ) → Steps.longBefore d empty k c s ≡ pos 0
   unfolding Steps.longBefore
-  no-long c s = none-where s (Steps.futureOf d c) _ (λ t. refl)
+  no-long c s = sumWhere-zeros s (Steps.futureOf d c) _ (λ t. refl)
 
   no-quantity : (c : ℕ) → Steps.spreadQuantity d empty k c ≡ pos 0
   unfolding Steps.totalShort Steps.totalLong Steps.shortBefore Steps.longBefore
@@ -79,18 +70,18 @@ module _ (d : List ℕ) (k : ℕ) where
 
   no-mtm : (c : ℕ) → Steps.mtm d empty empty k c ≡ pos 0
   unfolding Steps.mtm
-  no-mtm c = none-where (seriesCount d) (Steps.securityOf d c) _ (λ s. ap (λ (z : ℤ). z -ℤ pos 0) (no-worth s (pos 0) (pos (closing d s)) refl))
+  no-mtm c = sumWhere-zeros (seriesCount d) (Steps.securityOf d c) _ (λ s. ap (λ (z : ℤ). z -ℤ pos 0) (no-worth s (pos 0) (pos (closing d s)) refl))
 
   no-premium : (c : ℕ) → Steps.premium d empty k c ≡ pos 0
   unfolding Steps.premium
   no-premium c =
-      none-where (seriesCount d) (Steps.optionOf d c) _
+      sumWhere-zeros (seriesCount d) (Steps.optionOf d c) _
       (λ s i. no-worth s (pos 0) (pos (closing d s)) refl i +ℤ no-worth s (pos 0) (Steps.inTheMoney d c s) refl i)
 
   no-point : (c j : ℕ) → Steps.classPoint d empty k c j ≡ pos 0
   unfolding Steps.classPoint
   no-point c j =
-      none-where (seriesCount d) (Steps.ofClass d c) _
+      sumWhere-zeros (seriesCount d) (Steps.ofClass d c) _
       (λ s i. no-worth s (Steps.countedNet d empty k c s) (Steps.openChange d s j) (no-counted c s) i
       +ℤ no-worth s (pos 0) (Steps.exercisedChange d c s j) refl i)
 
@@ -99,14 +90,14 @@ module _ (d : List ℕ) (k : ℕ) where
   no-minimum c =
       sumTo-ext 6 _ (λ i. pos 0)
       (λ i h.
-      ap (λ (z : ℤ). absZ z *ℤ pos (Steps.minimumRate d c (i + 1))) (none-where (seriesCount d) (Steps.typeOf d c (i + 1)) empty (λ s. refl))
+      ap (λ (z : ℤ). absZ z *ℤ pos (Steps.minimumRate d c (i + 1))) (sumWhere-zeros (seriesCount d) (Steps.typeOf d c (i + 1)) empty (λ s. refl))
       ∙ zero-*ℤ (pos (Steps.minimumRate d c (i + 1))))
       ∙ sumTo-zero 6
 
   module _ (g : ℕ) where
     no-classes : (f : ℕ → ℤ) → ((c : ℕ) → f c ≡ pos 0) → Steps.overClasses d g f ≡ pos 0
     unfolding Steps.overClasses
-    no-classes f h = none-where (classCount d) (λ c. eqb (group d c) g) f h
+    no-classes f h = sumWhere-zeros (classCount d) (λ c. eqb (group d c) g) f h
 
     no-additional : Steps.additional d empty k g ≡ pos 0
     unfolding Steps.additional Steps.groupPoint Steps.afterOffset largest

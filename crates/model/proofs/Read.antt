@@ -16,6 +16,10 @@ use Rattle.model.specs.Steps.{hasLine, margin, lineAmounts, total}
 use Rattle.model.specs.Report.{wordsOfAmounts, bookMap, lineWords, bookLines, lineCount, totals, reportWords}
 use Rattle.model.specs.Reading.{countIn, mapIn, standsIn, linesBefore, lineIn, totalIn, amountIn, marginIn}
 
+-- what group g of book k adds to the book's total
+abbrev pub adds : List ℕ → (ℕ → ℤ) → (ℕ → ℤ) → ℕ → ℕ → ℤ
+adds d n v k g = cond (hasLine d n v k g) (margin d n v k g) (pos 0)
+
 module _ (d : List ℕ) (n v : ℕ → ℤ) where
   pub map-small : (k : ℕ) → bookMap d n v k < 2 ^ 29
   unfolding bookMap
@@ -127,7 +131,7 @@ module _ (d : List ℕ) (n v : ℕ → ℤ) where
     fifth k g f = amount-back (margin d n v k g) f
 
     pub margin-read : (k g : ℕ) → k < 2 → g < 29 → natAbs (margin d n v k g) < 2 ^ 63
-        → marginIn w k g ≡ cond (hasLine d n v k g) (margin d n v k g) (pos 0)
+        → marginIn w k g ≡ adds d n v k g
     margin-read k g h p f = rw (stands-read k g h p) (by (hasLine d n v k g) refl)
       where
         by : (b : Bool) → hasLine d n v k g ≡ b → cond (eqb (bit b) 1) (amountIn (lineIn w k g) 13) (pos 0) ≡ cond b (margin d n v k g) (pos 0)

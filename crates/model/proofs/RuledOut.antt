@@ -17,6 +17,7 @@ use Rattle.model.specs.Reading.{countIn}
 use Rattle.model.specs.Computing.{everything}
 use Rattle.model.specs.Accounts.{batchFile, positionRecord, minus}
 use Rattle.model.specs.Figures.{share, large, largeHeld}
+use Rattle.model.specs.Mistakes.{twoRecords}
 use Rattle.model.proofs.TwoGroups.{day, before, removed, memory, before-accepted, removed-accepted, before-room, removed-room}
 
 -- a program: its answer, by the length of the report memory, and the memory that it leaves
@@ -76,9 +77,6 @@ first-count = refl
 removed-count : countIn (memoryAfter day removed memory) ≡ 2
 unfolding everything
 removed-count = refl
-
-abbrev twoRecords : List ℕ
-twoRecords = batchFile 2 (positionRecord 0 100 0 (pos 0) ++ positionRecord 0 100 0 (minus 81500000))
 
 two-accepted : Accepted share twoRecords
 unfolding everything

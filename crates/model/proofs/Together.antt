@@ -6,14 +6,13 @@ use Prim.Native.Nat.{ℕ, suc, _-_, _/_, _%_, _^_, _≤_, _<_}
 use native.Mathlib.Decide.{le-ind, decLt, decLe}
 use native.Mathlib.Nat.{le-of-eq}
 use native.Mathlib.Omega.{arith}
-use borrow.Author.Tests.{eqb-true, leb-false, le-leb, lt-leb, lt-ltb}
+use borrow.Author.Tests.{eqb-true, leb-false, le-leb, lt-leb, lt-ltb, not-false}
 use lib.Dec.{leb, ltb, eqb}
 use Rattle.numbers.specs.declared.Found.{Found}
 use Rattle.numbers.specs.declared.Found.the-variants.{At, Nothing}
 use Rattle.numbers.specs.Scan.{hit, first-at}
 use Rattle.model.specs.DayFile.{classCount, classNumber, seriesCount, seriesKey, seriesClassNumber, foundClass, placeOr, seriesClass}
 use Rattle.model.specs.DayChecks.{row13, row15}
-use Rattle.model.proofs.Tests.{not-off}
 use Rattle.model.proofs.Accepted.{DayRows}
 use Rattle.model.proofs.Expiry.{rank-order}
 
@@ -33,7 +32,7 @@ module _ (d : List ℕ) (r : DayRows d) where
   -- the class of a series, and its number
   found : (s : ℕ) → s < seriesCount d → (seriesClass d s < classCount d) × (classNumber d (seriesClass d s) ≡ seriesClassNumber d s)
   unfolding row15 seriesClass foundClass
-  found s h = by (foundClass d s) refl (not-off (hit (foundClass d s)) (r .at15 s h))
+  found s h = by (foundClass d s) refl (not-false (hit (foundClass d s)) (r .at15 s h))
     where
       by : (f : Found) → foundClass d s ≡ f → hit f ≡ true → (placeOr f (classCount d) < classCount d) × (classNumber d (placeOr f (classCount d)) ≡ seriesClassNumber d s)
       by (At i) p q =

@@ -14,7 +14,7 @@ use Rattle.model.specs.Netting.{net, dvp}
 use Rattle.model.specs.Steps.{hasLine, groupSum, margin, total}
 use Rattle.model.specs.Calls.{Accepted, needed, report, memoryAfter}
 use Rattle.model.specs.Reading.{totalIn, amountIn, marginIn}
-use Rattle.model.proofs.Read.{margin-read, total-read}
+use Rattle.model.proofs.Read.{margin-read, total-read, adds}
 use Rattle.model.proofs.Edits.{memory-is}
 use Rattle.model.proofs.Demand.{accepted-small}
 
@@ -39,14 +39,10 @@ module _ (d b : List ℕ) (a : Accepted d b) (rest : List ℕ) where
   abbrev w : List ℕ
   w = report d b ++ rest
 
-  -- what a group adds to its book's total
-  abbrev adds : ℕ → ℕ → ℤ
-  adds k g = cond (hasLine d (net b) (dvp b) k g) (margin d (net b) (dvp b) k g) (pos 0)
-
-  margin-is : (k g : ℕ) → k < 2 → g < 29 → marginIn w k g ≡ adds k g
+  margin-is : (k g : ℕ) → k < 2 → g < 29 → marginIn w k g ≡ adds d (net b) (dvp b) k g
   margin-is k g hk hg = margin-read d (net b) (dvp b) rest k g hk hg (accepted-small d b a .margins k g hk hg)
 
-  adds-debit : (k g : ℕ) → pos 0 ≤ℤ adds k g
+  adds-debit : (k g : ℕ) → pos 0 ≤ℤ adds d (net b) (dvp b) k g
   unfolding margin
   adds-debit k g =
       cond-debit (hasLine d (net b) (dvp b) k g) (margin d (net b) (dvp b) k g)
@@ -54,11 +50,11 @@ module _ (d b : List ℕ) (a : Accepted d b) (rest : List ℕ) where
 
   book-is : (k : ℕ) → k < 2 → total d (net b) (dvp b) k ≡ sumTo 29 (marginIn w k)
   unfolding total
-  book-is k h = sumTo-ext 29 (adds k) (marginIn w k) (λ g p. sym (margin-is k g h p))
+  book-is k h = sumTo-ext 29 (adds d (net b) (dvp b) k) (marginIn w k) (λ g p. sym (margin-is k g h p))
 
   book-debit : (k : ℕ) → pos 0 ≤ℤ total d (net b) (dvp b) k
   unfolding total
-  book-debit k = sum-debit 29 (adds k) (λ g p. adds-debit k g)
+  book-debit k = sum-debit 29 (adds d (net b) (dvp b) k) (λ g p. adds-debit k g)
 
   totals-words : Totals w
   totals-words =

@@ -2,7 +2,7 @@
 use mathlib.Core.Path.{_≡_, refl, sym, _∙_}
 use mathlib.Core.Bool.{Bool, true, false, not}
 use Prim.Native.Nat.{ℕ}
-use borrow.Author.Tests.{eqb-true}
+use borrow.Author.Tests.{eqb-true, not-false}
 use lib.Dec.{eqb}
 use Rattle.numbers.specs.declared.Found.{Found}
 use Rattle.numbers.specs.declared.Found.the-variants.{At, Nothing}
@@ -10,7 +10,6 @@ use Rattle.numbers.specs.Scan.{firstBad}
 use Rattle.model.specs.declared.Check.{Check}
 use Rattle.model.specs.declared.Verdict.{Verdict}
 use Rattle.model.specs.declared.Verdict.the-variants.{Passed, Failed}
-use Rattle.model.proofs.Tests.{not-off}
 use Rattle.model.specs.Rows.{_orElse_, plainRow, recordRow}
 
 pub or-assoc : (u v w : Verdict) → ((u orElse v) orElse w) ≡ (u orElse (v orElse w))
@@ -19,7 +18,7 @@ or-assoc (Failed k) v w = refl
 
 -- a test of two numbers that should be equal, passed
 pub equal-of : (a b : ℕ) (r : Bool) → r ≡ not (eqb a b) → r ≡ false → a ≡ b
-equal-of a b r e q = eqb-true a b (not-off (eqb a b) (sym e ∙ q))
+equal-of a b r e q = eqb-true a b (not-false (eqb a b) (sym e ∙ q))
 
 -- a check of several rows
 pub or-failed : (v w r : Verdict) (k : Check) → r ≡ v → r ≡ Failed k → Failed k ≡ v orElse w

@@ -7,7 +7,7 @@ use native.Mathlib.Omega.{arith}
 use borrow.Author.Tests.{le-leb}
 use lib.Count.{ones}
 use lib.ListN.{length, getD, drop}
-use Rattle.numbers.specs.Maps.{bit}
+use Rattle.numbers.specs.Maps.{bit, bit-one}
 use Rattle.model.specs.declared.Answer.the-variants.{Report}
 use Rattle.model.specs.Words.{word}
 use Rattle.model.specs.Netting.{net, dvp}
@@ -18,7 +18,7 @@ use Rattle.model.specs.Reading.{countIn, mapIn, standsIn, lineIn}
 use Rattle.model.proofs.Length.{nine-words}
 use Rattle.model.proofs.Read.{count-read, map-read, stands-read, line-read}
 use Rattle.model.proofs.Counted.{joined, Each, chosen, bookBlocks, lineBlocks, blocks-are-lines, blocks-each, ones-are-blocks}
-use Rattle.model.proofs.Edits.{memory-is, bit-one}
+use Rattle.model.proofs.Edits.{memory-is}
 
 -- every block of a list is so
 pub data All (P : List ℕ → Type 0) : List (List ℕ) → Type 0 where

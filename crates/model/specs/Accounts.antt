@@ -3,6 +3,7 @@ use mathlib.Core.List.{List, [], _∷_, _++_, map}
 use Prim.Native.Nat.{ℕ, _+_, _*_, _^_}
 use lib.IntN.{ℤ, pos, negℤ}
 use lib.ListN.{replicate}
+use Rattle.model.specs.declared.Answer.{Answer}
 use Rattle.model.specs.Words.{word, amountWords}
 use Rattle.model.specs.Answers.{statusOf, valueOf}
 use Rattle.model.specs.Netting.{net, dvp}
@@ -55,6 +56,10 @@ noRates = replicate 8 0
 
 -- ---- what is computed from a day file d and a batch b
 
+-- the two numbers of an answer
+abbrev pub numbersOf : Answer → List ℤ
+numbersOf a = pos (statusOf a) ∷ pos (valueOf a) ∷ []
+
 -- the numbers 0 .. 9
 abbrev pub tenOf : (ℕ → ℤ) → List ℤ
 tenOf f = f 0 ∷ f 1 ∷ f 2 ∷ f 3 ∷ f 4 ∷ f 5 ∷ f 6 ∷ f 7 ∷ f 8 ∷ f 9 ∷ []
@@ -71,6 +76,9 @@ module _ (d b : List ℕ) where
   abbrev pub groupPoints : ℕ → List ℤ
   groupPoints g = tenOf (groupPoint d (net b) 0 g)
 
-  -- the call's two numbers, with memory for the longest report
+  -- the call's two numbers, with memory for the longest report; the first is 0 where the account is accepted
   abbrev pub answerNumbers : List ℤ
-  answerNumbers = pos (statusOf (answer d b 1115)) ∷ pos (valueOf (answer d b 1115)) ∷ []
+  answerNumbers = numbersOf (answer d b 1115)
+
+  abbrev pub status : ℤ
+  status = pos (statusOf (answer d b 1115))

@@ -5,11 +5,9 @@ use mathlib.Core.List.{List, [], _∷_, _++_, map}
 use Prim.Native.Nat.{ℕ, _+_, _*_}
 use lib.IntN.{ℤ, pos}
 use lib.ListN.{replicate}
-use Rattle.model.specs.Answers.{statusOf}
 use Rattle.model.specs.Netting.{net, dvp}
 use Rattle.model.specs.Steps.{mtm, premium, additional}
-use Rattle.model.specs.Calls.{answer}
-use Rattle.model.specs.Accounts.{Figure, allComputed, allPublished, minus, ten, noRates, dayFile, classRecord, seriesRecord, batchFile, positionRecord, lineOf, classPoints, groupPoints}
+use Rattle.model.specs.Accounts.{Figure, allComputed, allPublished, minus, ten, noRates, dayFile, classRecord, seriesRecord, batchFile, positionRecord, status, lineOf, classPoints, groupPoints}
 use Rattle.model.specs.Figures.{share, shareHeld}
 use Rattle.model.specs.Computing.{everything}
 
@@ -23,10 +21,6 @@ credit n = minus (10000 * n)
 -- prices of whole euros
 abbrev priced : List ℕ → List ℕ
 priced l = map (λ n. 10000 * n) l
-
--- 0 where the call over words accepts
-abbrev status : List ℕ → List ℕ → ℤ
-status d b = pos (statusOf (answer d b 1115))
 
 -- a share at 40 with a margin interval of 10%, as series of class 0
 abbrev shareAt40 : List ℕ

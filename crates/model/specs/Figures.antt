@@ -1,13 +1,15 @@
 -- The figures M1 to M9 of the scope: what the definitions compute, beside what the paper prints. Amounts are in ten-thousandths of a euro.
+-- Each figure of an account begins with the call's number, 0: the account is accepted.
 use mathlib.Core.Path.{_≡_, refl}
 use mathlib.Core.List.{List, [], _∷_, _++_}
 use Prim.Native.Nat.{ℕ, _^_}
-use lib.IntN.{pos}
+use lib.IntN.{ℤ, pos}
 use lib.ListN.{replicate}
+use Rattle.model.specs.DayFile.{offset}
 use Rattle.model.specs.Netting.{net, dvp}
 use Rattle.model.specs.Steps.{afterOffset, spreadQuantity, spotSpread, nonSpotSpread, spread, nonSpread, mtm, premium, classPoint, groupPoint, groupMtm}
 use Rattle.model.specs.Report.{lineCount}
-use Rattle.model.specs.Accounts.{Figure, allComputed, allPublished, minus, ten, noRates, dayFile, classRecord, seriesRecord, batchFile, positionRecord, lineOf, answerNumbers}
+use Rattle.model.specs.Accounts.{Figure, allComputed, allPublished, minus, ten, noRates, dayFile, classRecord, seriesRecord, batchFile, positionRecord, lineOf, answerNumbers, status}
 use Rattle.model.specs.Computing.{everything}
 
 -- ---- M1: four futures, spot rate 300, non-spot rate 200
@@ -65,6 +67,18 @@ abbrev groupHeld : List ℕ
 groupHeld =
     batchFile 3 (positionRecord 0 0 1 (pos 0) ++ (positionRecord 1 0 1 (pos 0) ++ positionRecord 2 0 1 (pos 0)))
 
+-- the three arrays at point k: before the offset, after it, and their sum
+abbrev groupArrays : ℕ → List ℤ
+groupArrays k =
+    classPoint group4 (net groupHeld) 0 0 k
+    ∷ classPoint group4 (net groupHeld) 0 1 k
+    ∷ classPoint group4 (net groupHeld) 0 2 k
+    ∷ afterOffset (offset group4 0) (classPoint group4 (net groupHeld) 0 0 k)
+    ∷ afterOffset (offset group4 1) (classPoint group4 (net groupHeld) 0 1 k)
+    ∷ afterOffset (offset group4 2) (classPoint group4 (net groupHeld) 0 2 k)
+    ∷ groupPoint group4 (net groupHeld) 0 5 k
+    ∷ []
+
 -- ---- M5: ten short calls at 0.17, multiplier 1,000, U5 0.409
 
 abbrev shortCalls : List ℕ
@@ -112,7 +126,8 @@ unfoldable pub figures : List Figure
 figures =
     record {
       computed =
-          spreadQuantity futures (net futuresHeld) 0 0
+          status futures futuresHeld
+          ∷ spreadQuantity futures (net futuresHeld) 0 0
           ∷ spotSpread futures (net futuresHeld) 0 0
           ∷ nonSpotSpread futures (net futuresHeld) 0 0
           ∷ spread futures (net futuresHeld) 0 0
@@ -121,35 +136,39 @@ figures =
           ∷ nonSpread futures (net futuresHeld) 0 0 2
           ∷ nonSpread futures (net futuresHeld) 0 0 3
           ∷ [];
-      published = pos 28 ∷ pos 15 ∷ pos 41 ∷ pos 127000000 ∷ pos 0 ∷ pos 0 ∷ minus 5 ∷ pos 0 ∷ [];
+      published = pos 0 ∷ pos 28 ∷ pos 15 ∷ pos 41 ∷ pos 127000000 ∷ pos 0 ∷ pos 0 ∷ minus 5 ∷ pos 0 ∷ [];
     }
     ∷ record {
       computed =
-          premium calls (net callsExercised) 0 0
+          status calls callsExercised
+          ∷ premium calls (net callsExercised) 0 0
           ∷ classPoint calls (net callsExercised) 0 0 9
           ∷ classPoint calls (net callsExercised) 0 0 0
           ∷ [];
-      published = minus 15640000 ∷ minus 36880000 ∷ pos 36880000 ∷ [];
+      published = pos 0 ∷ minus 15640000 ∷ minus 36880000 ∷ pos 36880000 ∷ [];
     }
     ∷ record {
-      computed = mtm share (net shareHeld) (dvp shareHeld) 0 0 ∷ classPoint share (net shareHeld) 0 0 0 ∷ [];
-      published = pos 1500000 ∷ pos 8000000 ∷ [];
+      computed = status share shareHeld ∷ mtm share (net shareHeld) (dvp shareHeld) 0 0 ∷ classPoint share (net shareHeld) 0 0 0 ∷ [];
+      published = pos 0 ∷ pos 1500000 ∷ pos 8000000 ∷ [];
+    }
+    ∷ record {
+      computed = status group4 groupHeld ∷ (groupArrays 0 ++ groupArrays 1);
+      published =
+          pos 0
+          ∷ (pos 20000000 ∷ minus 20000000 ∷ minus 2000000 ∷ pos 20000000 ∷ minus 10000000 ∷ minus 1000000 ∷ pos 9000000 ∷ [])
+          ++ (pos 25000000 ∷ minus 16000000 ∷ minus 1600000 ∷ pos 25000000 ∷ minus 8000000 ∷ minus 800000 ∷ pos 16200000 ∷ []);
     }
     ∷ record {
       computed =
-          groupPoint group4 (net groupHeld) 0 5 0 ∷ groupPoint group4 (net groupHeld) 0 5 1 ∷ [];
-      published = pos 9000000 ∷ pos 16200000 ∷ [];
-    }
-    ∷ record {
-      computed =
-          premium shortCalls (net shortCallsHeld) 0 0
+          status shortCalls shortCallsHeld
+          ∷ premium shortCalls (net shortCallsHeld) 0 0
           ∷ classPoint shortCalls (net shortCallsHeld) 0 0 9
           ∷ [];
-      published = pos 17000000 ∷ pos 23900000 ∷ [];
+      published = pos 0 ∷ pos 17000000 ∷ pos 23900000 ∷ [];
     }
     ∷ record {
-      computed = lineOf credit creditHeld 7;
-      published = pos 0 ∷ pos 1500000 ∷ minus 8914000 ∷ pos 3098000 ∷ pos 0 ∷ pos 4316000 ∷ [];
+      computed = status credit creditHeld ∷ lineOf credit creditHeld 7;
+      published = pos 0 ∷ pos 0 ∷ pos 1500000 ∷ minus 8914000 ∷ pos 3098000 ∷ pos 0 ∷ pos 4316000 ∷ [];
     }
     ∷ record { computed = afterOffset 85 (minus 101) ∷ afterOffset 85 (minus 1) ∷ []; published = minus 85 ∷ pos 0 ∷ [] }
     ∷ record {
@@ -158,11 +177,13 @@ figures =
     }
     ∷ record {
       computed =
-          pos (lineCount two (net shareTraded) (dvp shareTraded))
+          status two shareTraded
+          ∷ pos (lineCount two (net shareTraded) (dvp shareTraded))
           ∷ groupMtm two (net shareTraded) (dvp shareTraded) 0 2
+          ∷ status two futureTraded
           ∷ pos (lineCount two (net futureTraded) (dvp futureTraded))
           ∷ [];
-      published = pos 1 ∷ minus 100000 ∷ pos 0 ∷ [];
+      published = pos 0 ∷ pos 1 ∷ minus 100000 ∷ pos 0 ∷ pos 0 ∷ [];
     }
     ∷ []
 

@@ -19,5 +19,7 @@ pub mod Accounts
 pub mod Figures
 pub mod Mistakes
 pub mod Examples
+pub mod Cases
+pub mod Refusals
 pub mod Ascii
 pub mod Texts

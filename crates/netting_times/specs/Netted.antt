@@ -9,7 +9,7 @@ use Rattle.model.specs.declared.Verdict.{Verdict}
 use Rattle.model.specs.declared.Verdict.the-variants.{Passed, Failed}
 use Rattle.model.specs.BatchChecks.{batchCheck}
 use Rattle.model.proofs.Accepted.{batch-checked}
-use Rattle.model.proofs.Tests.{and-left, and-right}
+use Rattle.numbers.specs.Tests.{and-left, and-right}
 use Rattle.netting.specs.Limits.{Limited, limited}
 
 abbrev pub passed : Verdict → Bool

@@ -6,6 +6,7 @@ use Prim.Native.Nat.{ℕ, _+_, _<_}
 use borrow.Author.Tests.{eq-eqb, ne-eqb}
 use lib.Dec.{eqb}
 use lib.ListN.{set, replicate}
+use Rattle.numbers.specs.Tests.{or-true, or-false, and-true}
 use Rattle.numbers.specs.Scan.{hit, anyBelow, any-none, any-more, first-ext}
 use Rattle.numbers.specs.Table.{tabulate, tabulate-ext, tabulate-set, replicate-tabulate}
 
@@ -14,18 +15,6 @@ flag key t n p = anyBelow n (λ r. eqb (key r) p && t r)
 
 abbrev pub flags : ℕ → (ℕ → ℕ) → (ℕ → Bool) → ℕ → List Bool
 flags m key t n = tabulate m (flag key t n)
-
-or-true : (a : Bool) → (a || true) ≡ true
-or-true true = refl
-or-true false = refl
-
-or-false : (a : Bool) → (a || false) ≡ a
-or-false true = refl
-or-false false = refl
-
-and-true : (a : Bool) → (a && true) ≡ a
-and-true true = refl
-and-true false = refl
 
 module _ (m : ℕ) (key : ℕ → ℕ) (t : ℕ → Bool) where
   pub flags-none : replicate m false ≡ flags m key t 0

@@ -5,9 +5,9 @@ use mathlib.Core.List.{List}
 use Prim.Native.Nat.{ℕ, zero, suc, _+_, _*_, _≤_, _<_}
 use native.Mathlib.Nat.{mul-le-mul, le-refl, le-trans}
 use native.Mathlib.Omega.{arith}
-use lib.IntN.{ℤ, pos, negsuc, negℤ, natAbs, _+ℤ_, _-ℤ_, _*ℤ_, +ℤ-assoc, zero-*ℤ, *ℤ-zero}
+use lib.IntN.{ℤ, pos, negℤ, natAbs, _+ℤ_, _-ℤ_, _*ℤ_, +ℤ-assoc, zero-*ℤ, *ℤ-zero}
 use lib.ListN.{length, getD}
-use Rattle.numbers.specs.Abs.{natAbs-*, natAbs-*-le}
+use Rattle.numbers.specs.Abs.{neg-mul, natAbs-*, natAbs-*-le}
 use Rattle.numbers.specs.Sums.{sumWhere}
 use Rattle.numbers.specs.Table.{tabulate, getD-tabulate, tabulate-ext}
 use Rattle.model.specs.Limits.{worthLimit, runningLimit, contractsLimit, priceLimit}
@@ -24,15 +24,6 @@ use Rattle.classes.specs.Range.{Range, sum-start, sum-turn, sum-end}
 use Rattle.classes.specs.Sizes.{contracts-size}
 use Rattle.spread.specs.Sides.{nonSpreadOf}
 use Rattle.accumulator.specs.Added.{changeAmount, addedAt, added, added-none, added-size}
-
-neg-mul : (x y : ℤ) → negℤ x *ℤ y ≡ x *ℤ negℤ y
-neg-mul (pos zero) y = zero-*ℤ y ∙ sym (zero-*ℤ (negℤ y))
-neg-mul (pos (suc a)) (pos zero) = *ℤ-zero (negsuc a) ∙ sym (*ℤ-zero (pos (suc a)))
-neg-mul (pos (suc a)) (pos (suc b)) = refl
-neg-mul (pos (suc a)) (negsuc b) = refl
-neg-mul (negsuc a) (pos zero) = *ℤ-zero (pos (suc a)) ∙ sym (*ℤ-zero (negsuc a))
-neg-mul (negsuc a) (pos (suc b)) = refl
-neg-mul (negsuc a) (negsuc b) = refl
 
 -- a put's sign may stand at the contracts
 by-type-mul : (t : ℕ) (x y : ℤ) → signedByType t x *ℤ y ≡ x *ℤ signedByType t y

@@ -11,7 +11,7 @@ use lib.ListN.{length, getD, length-append}
 use mir.Syntax.{w64}
 use mir.Val.{toZ, ofZ}
 use Rattle.numbers.specs.Abs.{back}
-use Rattle.numbers.specs.Maps.{mapBelow, bit, blocks, map-bit, ones-mono, blocks-length}
+use Rattle.numbers.specs.Maps.{mapBelow, bit-one, bit-other, blocks, map-bit, ones-mono, blocks-length}
 use Rattle.model.specs.Report.{bookMap, lineWords}
 use Rattle.model.specs.Steps.Lines.{hasLine}
 use Rattle.model.specs.Steps.Margin.{groupSpread, groupMtm, groupPremium, margin, residual, lineAmounts}
@@ -29,20 +29,12 @@ module _ (d : List ℕ) (n v : ℕ → ℤ) (k : ℕ) where
   -- a bit of the map says whether there is a line
   pub bit-set : (g m : ℕ) → g < 29 → m ≡ bookMap d n v k → m / 2 ^ g % 2 ≡ 1 → hasLine d n v k g ≡ true
   unfolding bookMap
-  bit-set g m h e q = by (hasLine d n v k g) (sym (map-bit (hasLine d n v k) g 29 h) ∙ ap (λ (x : ℕ). x / 2 ^ g % 2) (sym e) ∙ q)
-    where
-      by : (b : Bool) → bit b ≡ 1 → b ≡ true
-      by true z = refl
-      by false z = absurd (omega arith)
+  bit-set g m h e q = bit-one (hasLine d n v k g) (sym (map-bit (hasLine d n v k) g 29 h) ∙ ap (λ (x : ℕ). x / 2 ^ g % 2) (sym e) ∙ q)
 
   pub bit-clear : (g m : ℕ) → g < 29 → m ≡ bookMap d n v k → (m / 2 ^ g % 2 ≡ 1 → ⊥) → hasLine d n v k g ≡ false
   unfolding bookMap
   bit-clear g m h e q =
-      by (hasLine d n v k g) (λ z. q (ap (λ (x : ℕ). x / 2 ^ g % 2) e ∙ map-bit (hasLine d n v k) g 29 h ∙ z))
-    where
-      by : (b : Bool) → (bit b ≡ 1 → ⊥) → b ≡ false
-      by true z = absurd (z refl)
-      by false z = refl
+      bit-other (hasLine d n v k g) (λ z. q (ap (λ (x : ℕ). x / 2 ^ g % 2) e ∙ map-bit (hasLine d n v k) g 29 h ∙ z))
 
   -- the six amounts of a line fit
   pub line-small : (g : ℕ) → DayRows d → Budget d n v → k < 2 → g < 29 → Small (lineAmounts d n v k g)

@@ -10,7 +10,7 @@ use lib.Signed.{ltZ}
 use Rattle.numbers.specs.declared.Found.{Found}
 use Rattle.numbers.specs.declared.Found.the-variants.{At, Nothing}
 use Rattle.numbers.specs.Abs.{cond-ind, natAbs-+, natAbs--, natAbs-*-le}
-use Rattle.numbers.specs.Extremes.{minZ, maxZ, absZ, max-zero-abs}
+use Rattle.numbers.specs.Extremes.{minZ, maxZ, absZ, max-zero-abs, min-abs}
 use Rattle.numbers.specs.Scan.{firstBad, first-more, first-hit, first-at}
 use Rattle.model.specs.Limits.{worthLimit, contractsLimit, priceLimit}
 use Rattle.model.specs.DayFile.{seriesCount, classCount, seriesType, isFuture, spotRate, nonSpotRate}
@@ -79,10 +79,6 @@ module _ (d : List ℕ) (n : ℕ → ℤ) (k c a b : ℕ) (r : Range d c a b) wh
 
 -- ---- sizes
 
--- the smaller of two is one of them
-pub min-size : (x y : ℤ) (m : ℕ) → natAbs x ≤ m → natAbs y ≤ m → natAbs (minZ x y) ≤ m
-min-size x y m p q = cond-ind (ltZ x y) x y (λ z. natAbs z ≤ m) (λ t. p) (λ t. q)
-
 module _ (d : List ℕ) (nets : List ℤ) (w : Given d nets) (k c : ℕ) (hk : k < 2) (hc : c < classCount d) where
   pub short-size : (m : ℕ) → m ≤ seriesCount d → natAbs (shortBefore d (entry nets) k c m) ≤ contractsLimit
   short-size m h = short-so-far d (entry nets) (w .dvp) (w .day .rows) (w .budget) k c m hk hc h
@@ -99,7 +95,7 @@ module _ (d : List ℕ) (nets : List ℤ) (w : Given d nets) (k c : ℕ) (hk : k
   total-long-size = long-size (seriesCount d) (le-refl (seriesCount d))
 
   pub quantity-size : natAbs (spreadQuantity d (entry nets) k c) ≤ contractsLimit
-  quantity-size = min-size (totalLong d (entry nets) k c) (totalShort d (entry nets) k c) contractsLimit total-long-size total-short-size
+  quantity-size = min-abs (totalLong d (entry nets) k c) (totalShort d (entry nets) k c) contractsLimit total-long-size total-short-size
 
   pub spot-size : natAbs (spotSize d (entry nets) k c) ≤ contractsLimit
   unfolding spotSize
@@ -118,7 +114,7 @@ spread-parts d n k c = refl
 
 module _ (e q : ℤ) (r₁ r₂ : ℕ) (he : natAbs e ≤ contractsLimit) (hq : natAbs q ≤ contractsLimit) (h₁ : r₁ ≤ priceLimit) (h₂ : r₂ ≤ priceLimit) where
   pub near-size : natAbs (minZ e q) ≤ contractsLimit
-  near-size = min-size e q contractsLimit he hq
+  near-size = min-abs e q contractsLimit he hq
 
   pub twice-size : natAbs (pos 2 *ℤ q) ≤ 2 * contractsLimit
   twice-size = natAbs-*-le (pos 2) q 2 contractsLimit (omega arith) hq
@@ -142,7 +138,7 @@ module _ (q before size : ℤ) (hq : natAbs q ≤ contractsLimit) (hb : natAbs b
   rest-size = omega (arith, natAbs-- q before, hq, hb)
 
   taken-size : natAbs (minZ size (maxZ (q -ℤ before) (pos 0))) ≤ 2 * contractsLimit
-  taken-size = min-size size (maxZ (q -ℤ before) (pos 0)) (2 * contractsLimit) (omega arith) (omega (arith, max-zero-abs (q -ℤ before), rest-size))
+  taken-size = min-abs size (maxZ (q -ℤ before) (pos 0)) (2 * contractsLimit) (omega arith) (omega (arith, max-zero-abs (q -ℤ before), rest-size))
 
   pub left-size : natAbs (leftOver q before size) ≤ 3 * contractsLimit
   unfolding leftOver

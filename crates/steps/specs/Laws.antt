@@ -23,16 +23,6 @@ use Rattle.classes.specs.Tables.{entry, Given}
 use Rattle.classes.specs.Range.{Range, start, turn, finish}
 use Rattle.classes.specs.Sizes.{contracts-size}
 
--- ---- a test r of the code, which is the model's test t
-
-pub none-if : (r t : Bool) (y : ℤ) → not r ≡ true → r ≡ t → pos 0 ≡ cond t y (pos 0)
-none-if true t y h e = absurd (true≢false (sym h))
-none-if false t y h e = rw (sym e)
-
-pub some-if : (r t : Bool) (y : ℤ) → not r ≡ false → r ≡ t → y ≡ cond t y (pos 0)
-some-if true t y h e = rw (sym e)
-some-if false t y h e = absurd (true≢false h)
-
 -- ---- MTM
 
 abbrev pub mtmTo : List ℕ → (ℕ → ℤ) → (ℕ → ℤ) → ℕ → ℕ → ℕ → ℤ

@@ -1,12 +1,14 @@
 use borrow.Author.Needs.{needs}
 use native.Mathlib.Omega.{arith}
-use mathlib.Core.Path.{_≡_, ap, _∙_}
+use mathlib.Core.Path.{_≡_, ap, _∙_, sym}
 use mathlib.Core.Bool.{true, false, not}
 use mathlib.Core.List.{List}
 use Prim.Native.Nat.{ℕ}
 use lib.IntN.{ℤ, pos, _-ℤ_}
 use mir.Syntax.{w64}
 use mir.Val.{toZ, ofZ}
+use borrow.Author.Tests.{not-true, not-false}
+use Rattle.numbers.specs.Tests.{cond-on, cond-off}
 use Rattle.numbers.specs.Abs.{told, fits-by}
 use Rattle.model.specs.DayFile.{isSecurity, closing}
 use Rattle.model.specs.Steps.Positions.{openNet}
@@ -15,7 +17,7 @@ use Rattle.model.specs.Steps.Mtm.{mtmOf}
 use Rattle.classes.specs.Tables.{entry}
 use Rattle.classes.specs.Sizes.{contracts-size}
 use Rattle.model.proofs.Limits.{closing-limit}
-use Rattle.steps.specs.Laws.{none-if, some-if, mtm-fits}
+use Rattle.steps.specs.Laws.{mtm-fits}
 use Rattle.steps.proofs.mtm.series_mtm.Statement.{statement}
 use Rattle.steps.proofs.mtm.series_mtm.Tie as tie
 
@@ -39,7 +41,7 @@ module _ (x : tie.Start) where
 returns : tie.Need-returns
 returns c =
     let h : not (c .before .is-security .result) ≡ true = c .if1 .taken in
-    none-if (c .before .is-security .result) _ _ h (c .before .is-security .ensures ∙ ap isSecurity (c .before .before .series-type .ensures))
+    cond-off _ _ (pos 0) (sym (c .before .is-security .ensures ∙ ap isSecurity (c .before .before .series-type .ensures)) ∙ not-true _ h)
 
 net-is : (c : tie.After-position-amount) → toZ w64 (ofZ w64 (c .position-amount .result)) ≡ (let x = c .before .before .before .before .before in openNet (n x) (k x) (s x))
 net-is c = told (c .position-amount .ok) (c .position-amount .ensures)
@@ -77,7 +79,7 @@ returns-2 c =
     let i = c .before .before .before .before .before .before in
     let h : not (i .before .is-security .result) ≡ false = i .if1 .left in
     told (c .sub .ok) (c .sub .ensures ∙ value-is (c .before))
-    ∙ some-if (i .before .is-security .result) _ _ h (i .before .is-security .ensures ∙ ap isSecurity (i .before .before .series-type .ensures))
+    ∙ cond-on _ _ (pos 0) (sym (i .before .is-security .ensures ∙ ap isSecurity (i .before .before .series-type .ensures)) ∙ not-false _ h)
 
 pub series-mtm-spec : {M : Type 1} → statement M
 series-mtm-spec =

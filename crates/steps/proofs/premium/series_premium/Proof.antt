@@ -1,12 +1,14 @@
 use borrow.Author.Needs.{needs}
 use native.Mathlib.Omega.{arith}
-use mathlib.Core.Path.{_≡_, ap, _∙_}
+use mathlib.Core.Path.{_≡_, ap, _∙_, sym}
 use mathlib.Core.Bool.{true, false, not}
 use mathlib.Core.List.{List}
 use Prim.Native.Nat.{ℕ}
 use lib.IntN.{ℤ, pos, _+ℤ_}
 use mir.Syntax.{w64}
 use mir.Val.{toZ, ofZ}
+use borrow.Author.Tests.{not-true, not-false}
+use Rattle.numbers.specs.Tests.{cond-on, cond-off}
 use Rattle.numbers.specs.Abs.{told, fits-by}
 use Rattle.model.specs.DayFile.{isOption, closing}
 use Rattle.model.specs.Steps.Positions.{openNet, exercisedNet}
@@ -15,7 +17,7 @@ use Rattle.model.specs.Steps.Premium.{inTheMoney, premiumOf}
 use Rattle.classes.specs.Tables.{entry}
 use Rattle.classes.specs.Sizes.{contracts-size}
 use Rattle.model.proofs.Limits.{closing-limit}
-use Rattle.steps.specs.Laws.{none-if, some-if, money-size, premium-fits}
+use Rattle.steps.specs.Laws.{money-size, premium-fits}
 use Rattle.steps.proofs.premium.series_premium.Statement.{statement}
 use Rattle.steps.proofs.premium.series_premium.Tie as tie
 
@@ -39,7 +41,7 @@ module _ (x : tie.Start) where
 returns : tie.Need-returns
 returns p =
     let h : not (p .before .is-option .result) ≡ true = p .if1 .taken in
-    none-if (p .before .is-option .result) _ _ h (p .before .is-option .ensures ∙ ap isOption (p .before .before .series-type .ensures))
+    cond-off _ _ (pos 0) (sym (p .before .is-option .ensures ∙ ap isOption (p .before .before .series-type .ensures)) ∙ not-true _ h)
 
 net-is : (p : tie.After-position-amount) → toZ w64 (ofZ w64 (p .position-amount .result)) ≡ (let x = p .before .before .before .before .before in openNet (n x) (k x) (s x))
 net-is p = told (p .position-amount .ok) (p .position-amount .ensures)
@@ -96,7 +98,7 @@ returns-2 p =
     let i = p .before .before .before .before .before .before .before .before in
     let h : not (i .before .is-option .result) ≡ false = i .if1 .left in
     told (p .add .ok) (p .add .ensures ∙ value-is (p .before))
-    ∙ some-if (i .before .is-option .result) _ _ h (i .before .is-option .ensures ∙ ap isOption (i .before .before .series-type .ensures))
+    ∙ cond-on _ _ (pos 0) (sym (i .before .is-option .ensures ∙ ap isOption (i .before .before .series-type .ensures)) ∙ not-false _ h)
 
 pub series-premium-spec : {M : Type 1} → statement M
 series-premium-spec =

@@ -8,6 +8,7 @@ use borrow.Author.Tests.{not-true, not-false}
 use lib.IntN.{ℤ, pos, negℤ, natAbs, _+ℤ_, +ℤ-idr}
 use mir.Syntax.{w64}
 use mir.Val.{toZ, ofZ}
+use Rattle.numbers.specs.Tests.{cond-on, cond-off}
 use Rattle.numbers.specs.Abs.{told, back, fits-by, natAbs-+, natAbs-neg}
 use Rattle.numbers.specs.Extremes.{max-zero-abs}
 use Rattle.model.specs.Limits.{contractsLimit}
@@ -43,10 +44,7 @@ module _ (c : tie.Start) where
 
 -- a series that is no future adds nothing
 none : (x y : ℤ) (t : Bool) → t ≡ false → x ≡ x +ℤ cond t y (pos 0)
-none x y t e = rw e (sym (+ℤ-idr x))
-
-some : (x y : ℤ) (t : Bool) → t ≡ true → x +ℤ y ≡ x +ℤ cond t y (pos 0)
-some x y t e = rw e
+none x y t e = sym (+ℤ-idr x) ∙ ap (λ (z : ℤ). x +ℤ z) (cond-off t y (pos 0) e)
 
 returns : tie.Need-returns
 returns c =
@@ -82,8 +80,8 @@ returns-2 c =
     let a = b .before .before .before .before in
     let e : isFuture (seriesType (d a) (a .args .s)) ≡ true =
     ap isFuture (sym (b .before .before .series-type .ensures)) ∙ sym (b .before .is-future .ensures) ∙ not-false _ (b .if1 .left) in (
-      told (c .before .before .before .add .ok) (c .before .before .before .add .ensures ∙ (λ i. self-short a i +ℤ short-is (c .before .before .before .before .before) i) ∙ some (a .args .self .short) (shortSide (z a)) _ e),
-      told (c .add2 .ok) (c .add2 .ensures ∙ (λ i. self-long a i +ℤ long-is (c .before .before) i) ∙ some (a .args .self .long) (longSide (z a)) _ e),
+      told (c .before .before .before .add .ok) (c .before .before .before .add .ensures ∙ (λ i. self-short a i +ℤ short-is (c .before .before .before .before .before) i) ∙ ap (λ (y : ℤ). a .args .self .short +ℤ y) (cond-on _ (shortSide (z a)) (pos 0) e)),
+      told (c .add2 .ok) (c .add2 .ensures ∙ (λ i. self-long a i +ℤ long-is (c .before .before) i) ∙ ap (λ (y : ℤ). a .args .self .long +ℤ y) (cond-on _ (longSide (z a)) (pos 0) e)),
     )
 
 pub add-spec : {M : Type 1} → statement M

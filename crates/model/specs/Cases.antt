@@ -1,0 +1,72 @@
+-- Accounts beside the papers' figures, for what no figure of theirs shows: the rate of each type, an exercised put, a line held by an exercised position alone.
+use mathlib.Core.Path.{_≡_, refl}
+use mathlib.Core.List.{List, [], _∷_, _++_}
+use Prim.Native.Nat.{ℕ, _+_, _^_}
+use lib.IntN.{pos}
+use lib.ListN.{replicate}
+use Rattle.model.specs.Netting.{net, dvp}
+use Rattle.model.specs.Steps.{minimum, premium, classPoint}
+use Rattle.model.specs.Report.{lineCount}
+use Rattle.model.specs.Accounts.{Figure, allComputed, allPublished, minus, ten, dayFile, classRecord, seriesRecord, batchFile, positionRecord, lineOf, status}
+use Rattle.model.specs.Computing.{everything}
+
+-- one series of each type; minimum rates 2, 3, 5, 7 and 11 units for options, futures, equities, warrants and rights
+abbrev types : List ℕ
+types =
+    dayFile 1 6
+    (classRecord 4 0 (0 ∷ 0 ∷ 0 ∷ 2 ∷ 3 ∷ 5 ∷ 7 ∷ 11 ∷ []) 0 (ten 0)
+    ++ (seriesRecord 0 1 3 1 (0 ∷ 0 ∷ []) (ten 0)
+    ++ (seriesRecord 0 2 3 1 (0 ∷ 0 ∷ []) (ten 0)
+    ++ (seriesRecord 0 3 3 1 (0 ∷ 0 ∷ []) (ten 0)
+    ++ (seriesRecord 0 4 0 1 (0 ∷ 0 ∷ []) (ten 0)
+    ++ (seriesRecord 0 5 0 1 (0 ∷ 0 ∷ []) (ten 0) ++ seriesRecord 0 6 0 1 (0 ∷ 0 ∷ []) (ten 0)))))))
+
+-- one contract short of the series at place s
+abbrev oneShort : ℕ → List ℕ
+oneShort s = batchFile 1 (positionRecord s 0 1 (pos 0))
+
+-- a put on 100 shares, strike 6, underlying 5, D5 4 and U5 6; two of them exercised
+abbrev put : List ℕ
+put =
+    dayFile 1 1
+    (classRecord 6 0 (50000 ∷ replicate 7 0) 0 (40000 ∷ (replicate 8 50000 ++ 60000 ∷ []))
+    ++ seriesRecord 0 3 3 100 (60000 ∷ 0 ∷ []) (ten 0))
+
+abbrev putsExercised : List ℕ
+putsExercised = batchFile 1 (positionRecord (2 ^ 8) 2 0 (pos 0))
+
+unfoldable pub cases : List Figure
+cases =
+    -- the minimum of one short future, call, put, equity, warrant and rights issue, each alone
+    record {
+      computed =
+          status types (oneShort 5)
+          ∷ minimum types (net (oneShort 0)) 0 0
+          ∷ minimum types (net (oneShort 1)) 0 0
+          ∷ minimum types (net (oneShort 2)) 0 0
+          ∷ minimum types (net (oneShort 3)) 0 0
+          ∷ minimum types (net (oneShort 4)) 0 0
+          ∷ minimum types (net (oneShort 5)) 0 0
+          ∷ [];
+      published = pos 0 ∷ pos 3 ∷ pos 2 ∷ pos 2 ∷ pos 5 ∷ pos 7 ∷ pos 11 ∷ [];
+    }
+    -- the puts: premium −200, −200 at D5 and 200 at U5
+    ∷ record {
+      computed =
+          status put putsExercised
+          ∷ premium put (net putsExercised) 0 0
+          ∷ classPoint put (net putsExercised) 0 0 0
+          ∷ classPoint put (net putsExercised) 0 0 9
+          ∷ [];
+      published = pos 0 ∷ minus 2000000 ∷ minus 2000000 ∷ pos 2000000 ∷ [];
+    }
+    -- they alone hold the line of group 6: premium −200, additional requirement 200, margin and residual 0
+    ∷ record {
+      computed = pos (lineCount put (net putsExercised) (dvp putsExercised)) ∷ lineOf put putsExercised 6;
+      published = pos 1 ∷ pos 0 ∷ pos 0 ∷ minus 2000000 ∷ pos 2000000 ∷ pos 0 ∷ pos 0 ∷ [];
+    }
+    ∷ []
+
+pub cases-agree : allComputed cases ≡ allPublished cases
+unfolding cases everything
+cases-agree = refl

@@ -1,0 +1,142 @@
+-- A refusal of each row, in the table's order: number and place of the answer. Rows 1 and 2 are those of the byte call.
+use mathlib.Core.Path.{_≡_, refl}
+use mathlib.Core.Bool.{_||_}
+use mathlib.Core.List.{List, [], _∷_, _++_}
+use Prim.Native.Nat.{ℕ, _+_, _*_, _%_, _^_}
+use lib.Dec.{ltb}
+use lib.IntN.{pos}
+use lib.ListN.{length, set}
+use Rattle.model.specs.Words.{word}
+use Rattle.model.specs.Calls.{answer}
+use Rattle.model.specs.Bytes.{row1, row2, byteAnswer}
+use Rattle.model.specs.Accounts.{Figure, allComputed, allPublished, ten, noRates, dayFile, classRecord, seriesRecord, batchFile, positionRecord, numbersOf, answerNumbers}
+use Rattle.model.specs.Computing.{everything}
+
+-- ---- an accepted day file and batch
+
+-- a future, a call and a share of one class; words 1 to 20 are the class, then 14 words a series
+abbrev day : List ℕ
+day =
+    dayFile 1 3
+    (classRecord 2 0 noRates 0 (ten 0)
+    ++ (seriesRecord 0 1 3 1 (0 ∷ 0 ∷ []) (ten 0)
+    ++ (seriesRecord 0 2 3 1 (50000 ∷ 0 ∷ []) (ten 0) ++ seriesRecord 0 4 0 1 (0 ∷ 0 ∷ []) (ten 0))))
+
+-- two classes without series
+abbrev classes : List ℕ → List ℕ → List ℕ
+classes a b = dayFile 2 0 (a ++ b)
+
+-- a share held, and another record behind it
+abbrev held : List ℕ → List ℕ
+held record₁ = batchFile 2 (positionRecord 2 1 0 (pos 0) ++ record₁)
+
+abbrev none : List ℕ
+none = batchFile 0 []
+
+-- the same files with one word changed
+abbrev changed : ℕ → ℕ → List ℕ
+changed i w = set day i w
+
+unfoldable pub refusals : List Figure
+refusals =
+    -- accepted
+    record { computed = answerNumbers day none; published = pos 0 ∷ pos 13 ∷ [] }
+    -- 1 and 2: no multiple of 4 bytes, also beside a bad day file
+    ∷ record {
+      computed = numbersOf (byteAnswer (0 ∷ []) [] 0) ++ numbersOf (byteAnswer [] (0 ∷ 0 ∷ []) 0);
+      published = pos 1 ∷ pos 0 ∷ pos 2 ∷ pos 0 ∷ [];
+    }
+    -- 10: no words, another kind, a spare bit, 65 classes
+    ∷ record {
+      computed =
+          answerNumbers [] none ++ answerNumbers (changed 0 (word 2 385)) none
+          ++ answerNumbers (changed 0 (word 1 (2 ^ 16 + 385))) none
+          ++ answerNumbers (word 1 65 ∷ []) none;
+      published = pos 10 ∷ pos 0 ∷ pos 10 ∷ pos 0 ∷ pos 10 ∷ pos 0 ∷ pos 10 ∷ pos 0 ∷ [];
+    }
+    -- 11: a word too many
+    ∷ record { computed = answerNumbers (day ++ 0 ∷ []) none; published = pos 11 ∷ pos 0 ∷ [] }
+    -- 12: an offset of 101 in the class, a multiplier of 0 in the second series
+    ∷ record {
+      computed = answerNumbers (changed 10 (word 4 101)) none ++ answerNumbers (changed 36 (word 4 0)) none;
+      published = pos 12 ∷ pos 0 ∷ pos 12 ∷ pos 2 ∷ [];
+    }
+    -- 13: a class number again
+    ∷ record {
+      computed = answerNumbers (classes (classRecord 2 5 noRates 0 (ten 0)) (classRecord 2 5 noRates 0 (ten 0))) none;
+      published = pos 13 ∷ pos 1 ∷ [];
+    }
+    -- 14: offsets 50 and 51 in one group
+    ∷ record {
+      computed = answerNumbers (classes (classRecord 2 5 noRates 50 (ten 0)) (classRecord 2 6 noRates 51 (ten 0))) none;
+      published = pos 14 ∷ pos 1 ∷ [];
+    }
+    -- 15: class 1 in the third series
+    ∷ record { computed = answerNumbers (changed 49 (word 2 (2 ^ 19 * 4 + 2 ^ 23))) none; published = pos 15 ∷ pos 2 ∷ [] }
+    -- 16: a key below the one before
+    ∷ record { computed = answerNumbers (changed 49 (word 2 0)) none; published = pos 16 ∷ pos 2 ∷ [] }
+    -- 17: type 7; a strike on the future; a serial on the call; an expiry on the share
+    ∷ record {
+      computed =
+          answerNumbers (changed 49 (word 2 (2 ^ 19 * 7))) none ++ answerNumbers (changed 23 (word 3 1)) none
+          ++ answerNumbers (changed 35 (word 2 (1 + 2 ^ 7 * 3 + 2 ^ 19 * 2))) none
+          ++ answerNumbers (changed 49 (word 2 (2 ^ 7 + 2 ^ 19 * 4))) none;
+      published = pos 17 ∷ pos 2 ∷ pos 17 ∷ pos 0 ∷ pos 17 ∷ pos 1 ∷ pos 17 ∷ pos 2 ∷ [];
+    }
+    -- 20: no words, 257 records; 256 are no offence of this row
+    ∷ record {
+      computed = answerNumbers day [] ++ answerNumbers day (word 1 257 ∷ []) ++ answerNumbers day (word 1 256 ∷ []);
+      published = pos 20 ∷ pos 0 ∷ pos 20 ∷ pos 0 ∷ pos 21 ∷ pos 0 ∷ [];
+    }
+    -- 21: a record too few, a word too many
+    ∷ record { computed = answerNumbers day (word 1 1 ∷ []) ++ answerNumbers day (none ++ 0 ∷ []); published = pos 21 ∷ pos 0 ∷ pos 21 ∷ pos 0 ∷ [] }
+    -- 22: a spare bit of the key; a quantity above its limit; minus zero
+    ∷ record {
+      computed =
+          answerNumbers day (held (positionRecord (2 ^ 10) 0 1 (pos 0)))
+          ++ answerNumbers day (held (positionRecord 2 10000001 0 (pos 0)))
+          ++ answerNumbers day (held (word 2 2 ∷ word 4 0 ∷ word 4 0 ∷ word 5 (2 ^ 28) ∷ word 6 0 ∷ word 6 0 ∷ []));
+      published = pos 22 ∷ pos 1 ∷ pos 22 ∷ pos 1 ∷ pos 22 ∷ pos 1 ∷ [];
+    }
+    -- 23: a fourth series
+    ∷ record { computed = answerNumbers day (held (positionRecord 3 0 1 (pos 0))); published = pos 23 ∷ pos 1 ∷ [] }
+    -- 24: the future exercised, the share exercised
+    ∷ record {
+      computed =
+          answerNumbers day (held (positionRecord (2 ^ 8) 0 1 (pos 0))) ++ answerNumbers day (held (positionRecord (2 + 2 ^ 8) 0 1 (pos 0)));
+      published = pos 24 ∷ pos 1 ∷ pos 24 ∷ pos 1 ∷ [];
+    }
+    -- 25: the future and the call as fails
+    ∷ record {
+      computed =
+          answerNumbers day (held (positionRecord (2 ^ 9) 0 1 (pos 0))) ++ answerNumbers day (held (positionRecord (1 + 2 ^ 9) 0 1 (pos 0)));
+      published = pos 25 ∷ pos 1 ∷ pos 25 ∷ pos 1 ∷ [];
+    }
+    -- 26: a DVP of the future and of the call
+    ∷ record {
+      computed = answerNumbers day (held (positionRecord 0 0 1 (pos 1))) ++ answerNumbers day (held (positionRecord 1 0 1 (pos 1)));
+      published = pos 26 ∷ pos 1 ∷ pos 26 ∷ pos 1 ∷ [];
+    }
+    -- 30: 10,000,001 calls in two records, of which the first is the place
+    ∷ record {
+      computed =
+          answerNumbers day
+          (batchFile 3 (positionRecord 2 1 0 (pos 0) ++ (positionRecord 1 0 10000000 (pos 0) ++ positionRecord 1 0 1 (pos 0))));
+      published = pos 30 ∷ pos 1 ∷ [];
+    }
+    -- 40: twelve words for a report of thirteen
+    ∷ record { computed = numbersOf (answer day none 12); published = pos 40 ∷ pos 13 ∷ [] }
+    ∷ []
+
+pub refusals-agree : allComputed refusals ≡ allPublished refusals
+unfolding refusals everything
+refusals-agree = refl
+
+-- the longest forms are those of 64 classes and 256 series, and of 256 records
+pub longest-day : (l : List ℕ) → row1 l ≡ ltb 0 (length l % 4) || ltb (4 * (1 + 20 * 64 + 14 * 256)) (length l)
+unfolding row1
+longest-day l = refl
+
+pub longest-batch : (l : List ℕ) → row2 l ≡ ltb 0 (length l % 4) || ltb (4 * (1 + 6 * 256)) (length l)
+unfolding row2
+longest-batch l = refl
