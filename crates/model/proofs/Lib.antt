@@ -13,6 +13,7 @@ pub mod Expiry
 pub mod Bounds
 pub mod Fit
 pub mod ByteWords
+pub mod Digits
 pub mod Edits
 pub mod Demand
 pub mod Readable
@@ -31,3 +32,8 @@ pub mod Corollaries
 pub mod Often
 pub mod Batches
 pub mod Places
+pub mod TextFields
+pub mod TextLines
+pub mod TextReading
+pub mod TextAnswers
+pub mod TextExamples

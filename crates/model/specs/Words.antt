@@ -7,6 +7,7 @@ use Prim.Native.Nat.{ℕ, zero, _+_, _*_, _/_, _%_, _^_, _<_}
 use native.Mathlib.Omega.{arith}
 use lib.Dec.{ltb, eqb}
 use lib.IntN.{ℤ, pos, negsuc, negℤ, natAbs}
+use Rattle.numbers.specs.Abs.{cond-ind, natAbs-neg}
 
 -- the top 3 bits of a word, and the low 29
 abbrev pub kind : ℕ → ℕ
@@ -88,3 +89,10 @@ amount-back (negsuc n) h =
 pub no-minus-zero : (z : ℤ) → natAbs z < 2 ^ 63 → negative (highWord z) ≡ 1 → 0 < magnitude (highWord z) (middleWord z) (lowWord z)
 no-minus-zero (pos n) h e = absurd (omega arith)
 no-minus-zero (negsuc n) h e = rw (magnitude-back (negsuc n) (2 ^ 28) (inr refl) h) (omega arith)
+
+-- an amount read from three words fits 63 bits
+pub amount-small : (u v w : ℕ) → natAbs (amount u v w) < 2 ^ 63
+amount-small u v w =
+    let m : magnitude u v w < 2 ^ 63 = omega arith in
+    cond-ind (eqb (negative u) 1) (negℤ (pos (magnitude u v w))) (pos (magnitude u v w)) (λ z. natAbs z < 2 ^ 63)
+    (λ t. rw (natAbs-neg (pos (magnitude u v w))) m) (λ t. m)
