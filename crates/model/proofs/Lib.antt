@@ -35,5 +35,6 @@ pub mod Places
 pub mod TextFields
 pub mod TextLines
 pub mod TextReading
+pub mod TextNumbers
 pub mod TextAnswers
 pub mod TextExamples

@@ -31,6 +31,7 @@ ended t = begins (10 ∷ []) t && eqb (length t) 1
 
 -- ---- numbers at the front of a text
 
+-- 0 to 9
 abbrev pub isDigit : ℕ → Bool
 isDigit c = leb 48 c && leb c 57
 
@@ -84,6 +85,7 @@ linesBytes t (suc n) = linesBytes t n + lineBytes (drop (linesBytes t n) t)
 
 -- ---- the whole text
 
+-- what f says of the number and its bytes
 abbrev pub withNumber : NumberRead → (ℕ → ℕ → TextSays) → TextSays
 withNumber (Number n k) f = f n k
 withNumber NoNumber f = Unreadable
@@ -92,7 +94,7 @@ abbrev pub withAmount : AmountRead → (ℤ → ℕ → TextSays) → TextSays
 withAmount (Amount z k) f = f z k
 withAmount NoAmount f = Unreadable
 
--- a refusal's number is none of the two that `textNumber` gives to other texts
+-- a refusal, where the text ends behind its place; its number is none of the two that `textNumber` gives to other texts
 abbrev pub refusalOf : ℕ → ℕ → Bool → TextSays
 refusalOf number place end = cond (ltb 0 number && ltb number (2 ^ 32 - 1) && ltb place (2 ^ 32) && end) (Refusal number place) Unreadable
 
@@ -132,6 +134,7 @@ countRead n t = cond (leb n 58 && begins (10 ∷ []) t) (linesRead n (drop 1 t))
 unfoldable pub reportRead : List ℕ → TextSays
 reportRead t = withNumber (fieldRead t) λ n k. countRead n (drop k t)
 
+-- a refusal's head, or a report's
 unfoldable pub textSays : List ℕ → TextSays
 textSays t = cond (begins refusedHead t) (refusalRead (drop 7 t)) (cond (begins marginHead t) (reportRead (drop 6 t)) Unreadable)
 

@@ -1,4 +1,4 @@
 pub mod Texts
 pub mod Room
 pub mod Heads
-pub mod Passed
+pub mod ReadingSteps

@@ -3,7 +3,7 @@ use mathlib.Core.Path.{sym, ap, _∙_}
 use mathlib.Core.List.{[], _∷_}
 use denote.Ref.{now}
 use Rattle.model.specs.TextReading.{plus, minus, amountRead}
-use Rattle.text.specs.Passed.{head-within}
+use Rattle.text.specs.ReadingSteps.{head-within}
 use Rattle.text.proofs.read_fields.read_amount.Statement.{statement}
 use Rattle.text.proofs.read_fields.read_amount.Tie as tie
 

@@ -4,7 +4,7 @@ use mathlib.Core.Path.{_≡_, sym, ap, _∙_}
 use lib.ListN.{drop, length-drop}
 use denote.Ref.{now}
 use Rattle.model.specs.TextReading.{decimalRead}
-use Rattle.text.specs.Passed.{part, number-within}
+use Rattle.text.specs.ReadingSteps.{part, number-within}
 use Rattle.text.proofs.read_fields.read_behind.Statement.{statement}
 use Rattle.text.proofs.read_fields.read_behind.Tie as tie
 

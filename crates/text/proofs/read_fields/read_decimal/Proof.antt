@@ -7,7 +7,7 @@ use Prim.Native.Nat.{ℕ, _-_, _^_, _≤_, _<_}
 use lib.ListN.{length, drop, getD}
 use denote.Ref.{now}
 use Rattle.model.specs.TextReading.{isDigit, digitsRead, decimalRead}
-use Rattle.text.specs.Passed.{digit-more, digit-twentieth, digit-other, digits-end, digit-low, digits-below, digits-fit}
+use Rattle.text.specs.ReadingSteps.{digit-more, digit-twentieth, digit-other, digits-end, digit-low, digits-below, digits-fit}
 use Rattle.text.proofs.read_fields.read_decimal.Statement.{statement}
 use Rattle.text.proofs.read_fields.read_decimal.Tie as tie
 

@@ -3,7 +3,7 @@ use mathlib.Core.Path.{sym, _∙_}
 use mathlib.Core.List.{[], _∷_}
 use denote.Ref.{now}
 use Rattle.model.specs.TextReading.{fieldRead}
-use Rattle.text.specs.Passed.{head-within}
+use Rattle.text.specs.ReadingSteps.{head-within}
 use Rattle.text.proofs.read_fields.read_field.Statement.{statement}
 use Rattle.text.proofs.read_fields.read_field.Tie as tie
 

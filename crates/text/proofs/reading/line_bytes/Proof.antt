@@ -5,7 +5,7 @@ use Prim.Native.Nat.{_+_, _-_, _≤_}
 use lib.ListN.{length, drop}
 use denote.Ref.{now}
 use Rattle.model.specs.TextReading.{lineBytes}
-use Rattle.text.specs.Passed.{line-ends, line-goes-on, line-cut}
+use Rattle.text.specs.ReadingSteps.{line-ends, line-goes-on, line-cut}
 use Rattle.text.proofs.reading.line_bytes.Statement.{statement}
 use Rattle.text.proofs.reading.line_bytes.Tie as tie
 

@@ -5,7 +5,7 @@ use Prim.Native.Nat.{_+_, _-_, _≤_}
 use lib.ListN.{length}
 use denote.Ref.{now}
 use Rattle.model.specs.TextReading.{lineBytes, linesBytes}
-use Rattle.text.specs.Passed.{part, lines-none, lines-more, lines-within}
+use Rattle.text.specs.ReadingSteps.{part, lines-none, lines-more, lines-within}
 use Rattle.text.proofs.reading.lines_bytes.Statement.{statement}
 use Rattle.text.proofs.reading.lines_bytes.Tie as tie
 

@@ -10,7 +10,7 @@ use lib.ListN.{length}
 use denote.Ref.{now}
 use Rattle.model.specs.TextReading.{begins, linesRead, countRead}
 use Rattle.model.proofs.Tests.{and-left, and-right}
-use Rattle.text.specs.Passed.{part, head-within}
+use Rattle.text.specs.ReadingSteps.{part, head-within}
 use Rattle.text.proofs.reading.read_count.Statement.{statement}
 use Rattle.text.proofs.reading.read_count.Tie as tie
 

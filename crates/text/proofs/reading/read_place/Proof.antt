@@ -6,7 +6,7 @@ use lib.ListN.{length}
 use denote.Ref.{now}
 use Rattle.model.specs.declared.NumberRead.the-variants.{Number}
 use Rattle.model.specs.TextReading.{ended, fieldRead, refusalOf, placeRead}
-use Rattle.text.specs.Passed.{part, field-used}
+use Rattle.text.specs.ReadingSteps.{part, field-used}
 use Rattle.text.proofs.reading.read_place.Statement.{statement}
 use Rattle.text.proofs.reading.read_place.Tie as tie
 

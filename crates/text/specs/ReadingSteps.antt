@@ -1,4 +1,4 @@
--- What reading passes over: a byte more, as loops meet it, and that it stays within the text.
+-- Reading step by step: one byte or line more, as loops meet it, and that what is read lies within the text.
 use mathlib.Core.Path.{_≡_, refl, sym, ap, _∙_}
 use mathlib.Core.Bool.{Bool, true, false, cond, _&&_, true≢false}
 use mathlib.Core.List.{List, [], _∷_}
