@@ -45,6 +45,26 @@ extern "C" {
 uint64_t mars_report(const uint8_t *day, size_t day_len, const uint8_t *batch, size_t batch_len, uint8_t *report,
                      size_t report_len);
 
+/*
+ * Reads back a text that the report program printed.
+ *
+ * text         Read during the call only, never written or kept. Any bytes are allowed.
+ * text_len     Its length in bytes, zero too.
+ * ordinary, fail, account
+ *              Where the totals of a report are stored: three distinct numbers outside the text, each aligned as an int64_t.
+ *              They stay unchanged unless the text is a report's.
+ * Pointers     Not NULL, the text's not even with length zero.
+ *
+ * Result       mars_number is 0 for the text of a report, and mars_value its line count, at most 58. The lines themselves are
+ *              passed over.
+ *              For the text of a refusal they are its number and place; for a text that is neither, MARS_UNREADABLE and 0.
+ *              Leading zeros are read; minus zero, a total of 2^63 or more in size and a place of 2^32 or more are not.
+ *
+ * Threads      The call keeps no state. It may run in any threads at once as long as their numbers are distinct.
+ */
+#define MARS_UNREADABLE 4294967295u
+uint64_t mars_read_text(const uint8_t *text, size_t text_len, int64_t *ordinary, int64_t *fail, int64_t *account);
+
 /* Refusals in the order in which they are tried, each over all records before the next. */
 enum mars_refusal {
     MARS_REPORT = 0,            /* no refusal: a report was written */

@@ -1,4 +1,5 @@
-/* Calls at the edges: unaligned and empty inputs, short memories, memories at the border of inaccessible pages, threads. */
+/* Calls at the edges: unaligned and empty inputs, short memories, memories at the border of inaccessible pages, threads;
+ * printed texts read back. */
 #define _DEFAULT_SOURCE
 #include "mars.h"
 
@@ -201,6 +202,63 @@ static void accessors(void) {
     check(mars_total(expected, MARS_ACCOUNT) == 16700000, "total", 2);
 }
 
+/* Reads a text of exactly these bytes; the totals must be those given, which are the numbers before where it has none. */
+static void reads(const char *text, size_t length, uint64_t result, int64_t ordinary, int64_t fail, int64_t account) {
+    int64_t totals[3] = {11, -22, 33};
+    uint8_t *block = exact((const uint8_t *)text, length);
+    check(mars_read_text(block, length, &totals[0], &totals[1], &totals[2]) == result, text, length);
+    check(totals[0] == ordinary && totals[1] == fail && totals[2] == account, text, length);
+    free(block);
+}
+
+static void reads_report(const char *text, uint32_t lines, int64_t ordinary, int64_t fail, int64_t account) {
+    reads(text, strlen(text), lines, ordinary, fail, account);
+}
+
+static void reads_refusal(const char *text, uint32_t number, uint32_t place) {
+    reads(text, strlen(text), refusal(number, place), 11, -22, 33);
+}
+
+/* Printed texts read back, whole, cut and damaged. */
+static void texts(void) {
+    static const char report[] = "MARGIN 1\nO 3 0 1500000 0 8000000 9500000 0\nTOTAL 9500000 0 9500000\n";
+    static const char refused[] = "REFUSED 30 7\n";
+    static const char *const damaged[] = {
+        "MARGIN 2\nO 3 0 1500000 0 8000000 9500000 0\nTOTAL 9500000 0 9500000\n",
+        "MARGIN 0\nO 3 0 1500000 0 8000000 9500000 0\nTOTAL 9500000 0 9500000\n",
+        "MARGIN 59\nTOTAL 0 0 0\n",
+        "MARGIN 0 \nTOTAL 0 0 0\n",
+        "MARGIN -0\nTOTAL 0 0 0\n",
+        "MARGIN  0\nTOTAL 0 0 0\n",
+        "MARGIN 0\nTOTAL 0 0\n",
+        "MARGIN 0\nTOTAL 0 0 0 0\n",
+        "MARGIN 0\nTOTAL 0 0 0\n\n",
+        "MARGIN 0\nTOTAL 0 0 -0\n",
+        "MARGIN 0\nTOTAL 0 0 +1\n",
+        "MARGIN 0\nTOTAL 0 9223372036854775808 0\n",
+        "MARGIN 0\nTOTAL 0 -9223372036854775808 0\n",
+        "MARGIN 0\nTOTAL 0 00000000000000000001 0\n",
+        "MARGIN 0\nTOTAL 0 99999999999999999999 0\n",
+        "MARGIN 0\nTOTALS 0 0 0\n",
+        "margin 0\nTOTAL 0 0 0\n",
+        "REFUSED 30 7\r\n",
+        "REFUSED 30 7 \n",
+        "REFUSED 30 -7\n",
+        "REFUSED 0 7\n",
+        "REFUSED 4294967295 7\n",
+        "REFUSED 30 4294967296\n",
+        " REFUSED 30 7\n",
+    };
+    reads_report(report, 1, 9500000, 0, 9500000);
+    reads_report("MARGIN 0\nTOTAL -1 20 19\n", 0, -1, 20, 19);
+    reads_report("MARGIN 0\nTOTAL 0 9223372036854775807 -9223372036854775807\n", 0, 0, INT64_MAX, -INT64_MAX);
+    reads_refusal(refused, MARS_NET_LIMIT, 7);
+    reads_refusal("REFUSED 001 4294967295\n", MARS_DAY_BYTES_BAD, UINT32_MAX);
+    for (size_t n = 0; n < sizeof report - 1; n++) reads(report, n, refusal(MARS_UNREADABLE, 0), 11, -22, 33);
+    for (size_t n = 0; n < sizeof refused - 1; n++) reads(refused, n, refusal(MARS_UNREADABLE, 0), 11, -22, 33);
+    for (size_t i = 0; i < sizeof damaged / sizeof damaged[0]; i++) reads_refusal(damaged[i], MARS_UNREADABLE, 0);
+}
+
 /* The argument is the folder of the sample `fail`. */
 int main(int argc, char **argv) {
     if (argc != 2) {
@@ -217,6 +275,7 @@ int main(int argc, char **argv) {
     inputs();
     borders();
     threads();
+    texts();
     free(day.bytes);
     free(batch.bytes);
     if (failures == 0) puts("all calls as expected");

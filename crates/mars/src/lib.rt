@@ -1,4 +1,4 @@
-// The byte call for a C host: the report of two files given as bytes, words low byte first.
+// The calls for a C host: the report of two files given as bytes, words low byte first; a printed text read back.
 ghost use mathlib.Core.Path.{_≡_};
 ghost use Prim.Native.Nat.{_+_, _*_, _/_, _^_, _≤_, _<_};
 ghost use lib.ListN.{length, take};
@@ -6,10 +6,13 @@ ghost use Rattle.numbers.specs.Put.{put};
 ghost use Rattle.model.specs.Answers.{statusOf, valueOf};
 ghost use Rattle.model.specs.Bytes.{badBytes, bytesOf, byteAnswer, bytesAfter, wordsOf, writtenBytes};
 ghost use Rattle.model.specs.Calls.{answer as answerTo, report as reportOf};
+ghost use Rattle.model.specs.TextReading.{textSays, textNumber, textValue, totalAfter};
 ghost use Rattle.mars.specs.Room.{roomOf};
 use model::Answer;
 use model::BytesFault;
 use model::Check;
+use model::TextSays;
+use text::reading::read_text;
 
 // Not a multiple of 4 bytes, or longer than the longest form.
 pub fn bad_bytes(bytes: &[u8], longest: usize) -> bool
@@ -112,4 +115,33 @@ pub extern "C" fn mars_report(day: &[u8], batch: &[u8], report: &mut [u8]) -> u6
 {
     let answer = byte_report(day, batch, report);
     words::wide(answers::status(answer)) * 4294967296 + answers::value(answer) as u64
+}
+
+// Number × 2^32 + value: 0 and the line count of a printed report, whose totals are stored, a refusal's number and place, or
+// 2^32 − 1 and 0.
+#[no_mangle]
+pub extern "C" fn mars_read_text(
+    text: &[u8],
+    ordinary: &mut i64,
+    fail: &mut i64,
+    account: &mut i64,
+) -> u64
+    ensures result { λ r. ⌜ r ≡ textNumber (textSays (now (text .entry))) * 2 ^ 32 + textValue (textSays (now (text .entry))) ⌝ }
+    ensures ordinary { λ _. ⌜ now (ordinary .exit) ≡ totalAfter (λ t. t .ordinary) (textSays (now (text .entry))) (now (ordinary .entry)) ⌝ }
+    ensures fail { λ _. ⌜ now (fail .exit) ≡ totalAfter (λ t. t .fail) (textSays (now (text .entry))) (now (fail .entry)) ⌝ }
+    ensures account { λ _. ⌜ now (account .exit) ≡ totalAfter (λ t. t .account) (textSays (now (text .entry))) (now (account .entry)) ⌝ }
+{
+    match read_text(text) {
+        TextSays::Report(totals) => {
+            let first = totals.ordinary;
+            let second = totals.fail;
+            let third = totals.account;
+            *ordinary = first;
+            *fail = second;
+            *account = third;
+            words::wide(totals.lines)
+        }
+        TextSays::Refusal(number, place) => words::wide(number) * 4294967296 + words::wide(place),
+        TextSays::Unreadable => 18446744069414584320,
+    }
 }

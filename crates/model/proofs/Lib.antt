@@ -13,6 +13,7 @@ pub mod Expiry
 pub mod Bounds
 pub mod Fit
 pub mod ByteWords
+pub mod Digits
 pub mod Edits
 pub mod Demand
 pub mod Readable
@@ -32,3 +33,9 @@ pub mod Often
 pub mod Batches
 pub mod Places
 pub mod Numbers
+pub mod TextFields
+pub mod TextLines
+pub mod TextReading
+pub mod TextNumbers
+pub mod TextAnswers
+pub mod TextExamples

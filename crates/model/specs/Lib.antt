@@ -13,6 +13,7 @@ pub mod Calls
 pub mod Bytes
 pub mod Reading
 pub mod Printed
+pub mod TextReading
 pub mod Locality
 pub mod Computing
 pub mod Accounts

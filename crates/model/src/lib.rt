@@ -94,3 +94,30 @@ pub enum NettingFault {
 pub enum ReportFault {
     TooShort,
 }
+
+// What a printed text says: a report's line count and totals, a refusal's number and place, or neither.
+pub enum TextSays {
+    Report(ReportTotals),
+    Refusal(u32, u32),
+    Unreadable,
+}
+
+// The line count of a report and its totals.
+pub struct ReportTotals {
+    pub lines: u32,
+    pub ordinary: i64,
+    pub fail: i64,
+    pub account: i64,
+}
+
+// A number at the front of a text and the bytes that it takes, or none.
+pub enum NumberRead {
+    Number(u64, usize),
+    NoNumber,
+}
+
+// The same of an amount.
+pub enum AmountRead {
+    Amount(i64, usize),
+    NoAmount,
+}

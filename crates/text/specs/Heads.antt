@@ -1,4 +1,4 @@
--- A text's head compared, and that it tells a refusal from a report.
+-- A text's head compared, byte by byte.
 use mathlib.Core.Path.{_≡_, refl, sym, ap, subst, _∙_}
 use mathlib.Core.Bool.{Bool, true, false, _&&_}
 use mathlib.Core.List.{List, [], _∷_}
@@ -8,15 +8,7 @@ use mathlib.Core.Logic.{_≢_}
 use lib.Dec.{T, eqb, eqb→eq, eqb-refl}
 use lib.ListN.{length, drop, getD}
 use lib.Seq.{drop-cons, drop-length}
-use Rattle.model.specs.declared.Answer.the-variants.{Report, Refused}
-use Rattle.model.specs.declared.Check.{Check}
-use Rattle.model.specs.Printed.{printed, reportText, refusalText, countText, refusedHead}
-
--- the text begins with the head
-abbrev pub begins : List ℕ → List ℕ → Bool
-begins [] t = true
-begins (h ∷ hs) [] = false
-begins (h ∷ hs) (c ∷ cs) = eqb c h && begins hs cs
+use Rattle.model.specs.TextReading.{begins}
 
 and-false : (b : Bool) → false ≡ (b && false)
 and-false true = refl
@@ -55,13 +47,3 @@ same-byte h t i e f q =
 
 pub all-bytes : (h t : List ℕ) (i : ℕ) → i ≡ length h → true ≡ begins (drop i h) (drop i t)
 all-bytes h t i e = rw (e, drop-length h) refl
-
--- ---- what the head of a printed text tells
-
-pub refusal-told : (k : Check) (w : List ℕ) → begins refusedHead (printed (Refused k) w) ≡ true
-unfolding refusalText
-refusal-told k w = refl
-
-pub report-told : (n : ℕ) (w : List ℕ) → begins refusedHead (printed (Report n) w) ≡ false
-unfolding reportText countText
-report-told n w = refl

@@ -1,4 +1,4 @@
-pub mod Digits
 pub mod Texts
 pub mod Room
 pub mod Heads
+pub mod ReadingSteps

@@ -2,18 +2,16 @@
 use mathlib.Core.Path.{_≡_, refl}
 use mathlib.Core.Bool.{Bool, true, false, cond}
 use mathlib.Core.List.{List, [], _∷_, _++_}
-use Prim.Native.Nat.{ℕ, zero, suc, _+_, _*_, _^_, _≤_, _<_}
+use Prim.Native.Nat.{ℕ, zero, suc, _+_, _*_, _≤_}
 use native.Mathlib.Numerals.{add-one}
 use native.Mathlib.Omega.{arith}
 use lib.Dec.{eqb}
-use lib.IntN.{pos, negℤ, natAbs}
 use lib.ListN.{length, getD, length-append}
-use Rattle.numbers.specs.Abs.{cond-ind, natAbs-neg}
 use Rattle.numbers.specs.Put.{put}
-use Rattle.model.specs.Words.{payload, bits, amount, magnitude, negative}
+use Rattle.model.specs.Words.{payload, bits}
 use Rattle.model.specs.Reading.{amountIn}
 use Rattle.model.specs.Printed.{signedDecimal, numberField, amountFields, marginHead, ordinaryHead, failHead, totalHead, lineText, linesText, countText, totalsText}
-use Rattle.text.specs.Digits.{decimal-length, signed-length}
+use Rattle.model.proofs.Digits.{decimal-length, signed-length}
 
 -- text from place 0 on ends at its length
 pub from-front : (w l : List ℕ) {n : ℕ} {m : List ℕ} → (n ≡ 0 + length w) × (m ≡ put 0 w l) → (n ≡ length w) × (m ≡ put 0 w l)
@@ -29,13 +27,6 @@ head-length p = by (eqb (bits p 5 1) 1)
     by : (b : Bool) → length (cond b failHead ordinaryHead) ≡ 1
     by true = refl
     by false = refl
-
--- an amount read from three words fits 63 bits
-pub amount-small : (u v w : ℕ) → natAbs (amount u v w) < 2 ^ 63
-amount-small u v w =
-    let m : magnitude u v w < 2 ^ 63 = omega arith in
-    cond-ind (eqb (negative u) 1) (negℤ (pos (magnitude u v w))) (pos (magnitude u v w)) (λ z. natAbs z < 2 ^ 63)
-    (λ t. rw (natAbs-neg (pos (magnitude u v w))) m) (λ t. m)
 
 module _ (w : List ℕ) where
   pub fields-none : (i : ℕ) → amountFields w i 0 ≡ []

@@ -1,7 +1,6 @@
-// Heads compared: what a printed text is, told by its first bytes.
+// Heads compared.
 ghost use mathlib.Core.Path.{_≡_};
-ghost use Rattle.model.specs.Printed.{refusedHead};
-ghost use Rattle.text.specs.Heads.{begins};
+ghost use Rattle.model.specs.TextReading.{begins};
 
 // Whether a text begins with a head.
 pub fn has_head(text: &[u8], head: &[u8]) -> bool
@@ -18,11 +17,4 @@ pub fn has_head(text: &[u8], head: &[u8]) -> bool
         i = i + 1;
     }
     true
-}
-
-// Whether a text is that of a refusal.
-pub fn is_refusal(text: &[u8]) -> bool
-    ensures { λ r. ⌜ r ≡ begins refusedHead (now (text .entry)) ⌝ }
-{
-    has_head(text, b"REFUSED")
 }

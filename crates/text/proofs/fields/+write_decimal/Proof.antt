@@ -6,7 +6,7 @@ use Prim.Native.Nat.{ℕ, _+_, _/_, _%_, _<_}
 use denote.Ref.{now}
 use Rattle.numbers.specs.Put.{put-then}
 use Rattle.model.specs.Printed.{decimal}
-use Rattle.text.specs.Digits.{digits-one, digits-more, tenth-length}
+use Rattle.model.proofs.Digits.{digits-one, digits-more, tenth-length}
 use borrow.Fn.Kinds.{In}
 use borrow.Fn.PlainCycle.{Measures, is, falls, and}
 use Rattle.text.proofs.fields.write_byte.Reads as write-byte-reads

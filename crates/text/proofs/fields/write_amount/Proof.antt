@@ -8,8 +8,8 @@ use Rattle.numbers.specs.Abs.{told}
 use Rattle.numbers.specs.Put.{put-then}
 use Rattle.model.specs.Reading.{amountIn}
 use Rattle.model.specs.Printed.{signedDecimal}
-use Rattle.text.specs.Digits.{signed-length}
-use Rattle.text.specs.Texts.{amount-small}
+use Rattle.model.proofs.Digits.{signed-length}
+use Rattle.model.proofs.Sizes.{amount-small}
 use Rattle.text.proofs.fields.write_amount.Statement.{statement}
 use Rattle.text.proofs.fields.write_amount.Tie as tie
 

@@ -8,7 +8,7 @@ use denote.Ref.{now}
 use Rattle.numbers.specs.Put.{put, put-none, put-length, put-then}
 use Rattle.model.specs.Reading.{amountIn}
 use Rattle.model.specs.Printed.{signedDecimal, amountFields}
-use Rattle.text.specs.Digits.{signed-length}
+use Rattle.model.proofs.Digits.{signed-length}
 use Rattle.text.specs.Texts.{fields-none, fields-more, fields-length}
 use Rattle.text.proofs.fields.write_amounts.Statement.{statement}
 use Rattle.text.proofs.fields.write_amounts.Tie as tie

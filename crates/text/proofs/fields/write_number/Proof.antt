@@ -4,7 +4,7 @@ use mathlib.Core.List.{[], _∷_}
 use denote.Ref.{now}
 use Rattle.numbers.specs.Put.{put-then}
 use Rattle.model.specs.Printed.{decimal}
-use Rattle.text.specs.Digits.{decimal-length}
+use Rattle.model.proofs.Digits.{decimal-length}
 use Rattle.text.proofs.fields.write_number.Statement.{statement}
 use Rattle.text.proofs.fields.write_number.Tie as tie
 

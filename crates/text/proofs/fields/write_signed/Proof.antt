@@ -11,7 +11,7 @@ use mir.Syntax.{w64}
 use mir.Val.{toZ, ofZ}
 use Rattle.numbers.specs.Put.{put-then}
 use Rattle.model.specs.Printed.{decimal}
-use Rattle.text.specs.Digits.{signed-minus, signed-plain, decimal-length}
+use Rattle.model.proofs.Digits.{signed-minus, signed-plain, decimal-length}
 use Rattle.text.proofs.fields.write_signed.Statement.{statement}
 use Rattle.text.proofs.fields.write_signed.Tie as tie
 

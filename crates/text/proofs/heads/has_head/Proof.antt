@@ -4,7 +4,8 @@ use Prim.Native.Nat.{_-_, _≤_}
 use lib.ListN.{length, drop}
 use denote.Ref.{now}
 use borrow.Author.Needs.{needs}
-use Rattle.text.specs.Heads.{begins, short, other-byte, same-byte, all-bytes}
+use Rattle.model.specs.TextReading.{begins}
+use Rattle.text.specs.Heads.{short, other-byte, same-byte, all-bytes}
 use Rattle.text.proofs.heads.has_head.Statement.{statement}
 use Rattle.text.proofs.heads.has_head.Tie as tie
 

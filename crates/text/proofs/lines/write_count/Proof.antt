@@ -6,7 +6,7 @@ use lib.ListN.{length-append}
 use denote.Ref.{now}
 use Rattle.numbers.specs.Put.{put-then}
 use Rattle.model.specs.Printed.{numberField, marginHead, countText}
-use Rattle.text.specs.Digits.{decimal-length}
+use Rattle.model.proofs.Digits.{decimal-length}
 use Rattle.text.proofs.lines.write_count.Statement.{statement}
 use Rattle.text.proofs.lines.write_count.Tie as tie
 

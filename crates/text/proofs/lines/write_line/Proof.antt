@@ -8,7 +8,7 @@ use denote.Ref.{now}
 use Rattle.numbers.specs.Put.{put-then}
 use Rattle.model.specs.Words.{payload, bits}
 use Rattle.model.specs.Printed.{numberField, amountFields}
-use Rattle.text.specs.Digits.{decimal-length}
+use Rattle.model.proofs.Digits.{decimal-length}
 use Rattle.text.specs.Texts.{headOf, head-length, fields-length, lineParts}
 use Rattle.text.proofs.lines.write_line.Statement.{statement}
 use Rattle.text.proofs.lines.write_line.Tie as tie

@@ -10,14 +10,14 @@ use lib.Dec.{ltb}
 use lib.IntN.{ℤ, pos, negsuc, natAbs}
 use lib.Signed.{ltZ}
 use lib.ListN.{length, length-append}
 use Rattle.model.specs.Printed.{digits, decimal, signedDecimal}
 
 pub digits-one : (n : ℕ) → n < 10 → decimal n ≡ (48 + n) ∷ []
 unfolding digits
 digits-one n h = rw (lt-ltb n 10 h)
 
 -- k digits are enough below 10 ^ k
-digits-enough : (k n : ℕ) → n < 10 ^ suc k → digits (suc (suc k)) n ≡ digits (suc k) n
+pub digits-enough : (k n : ℕ) → n < 10 ^ suc k → digits (suc (suc k)) n ≡ digits (suc k) n
 unfolding digits
 digits-enough zero n h = rw (lt-ltb n 10 (omega arith))
 digits-enough (suc k) n h =
@@ -29,7 +29,7 @@ digits-more n h l =
     ap (λ (t : Bool). cond t ((48 + n) ∷ []) (digits 19 (n / 10) ++ (48 + n % 10) ∷ [])) (le-ltb n 10 h)
     ∙ ap (λ (x : List ℕ). x ++ (48 + n % 10) ∷ []) (sym (digits-enough 18 (n / 10) (omega arith)))
 
-digits-count : (k n : ℕ) → length (digits k n) ≤ k
+pub digits-count : (k n : ℕ) → length (digits k n) ≤ k
 unfolding digits
 digits-count zero n = omega arith
 digits-count (suc k) n = by (ltb n 10) (digits-count k (n / 10))
