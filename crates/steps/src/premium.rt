@@ -37,7 +37,8 @@ fn series_premium(day: &[u32], nets: &[i64], book: usize, c: usize, s: usize) ->
     let price = amounts::signed(day_file::closing(day, s));
     let open = worth::worth(day, s, net, price);
     let taken = position_amount(nets, book, 1, s);
-    let exercised = worth::worth(day, s, taken, in_the_money(day, c, s));
+    let value = in_the_money(day, c, s);
+    let exercised = worth::worth(day, s, taken, value);
     amounts::add(open, exercised)
 }
 
