@@ -28,6 +28,22 @@ __attribute__((section("__libfuzzer_extra_counters"))) static uint8_t reached[41
 static uint8_t reached[41 * 16 + 59];
 #endif
 
+/* Answers over the whole run, printed at its end; the fuzzer clears its own marks before each input. */
+static uint64_t refusals[41], reports[59];
+
+static void print_reached(void) {
+    uint64_t inputs = 0;
+    for (int i = 0; i < 59; i++) inputs += reports[i];
+    for (int i = 0; i < 41; i++) inputs += refusals[i];
+    fprintf(stderr, "inputs: %llu\nrefusals (number: inputs):", (unsigned long long)inputs);
+    for (int i = 0; i < 41; i++)
+        if (refusals[i]) fprintf(stderr, " %d: %llu", i, (unsigned long long)refusals[i]);
+    fprintf(stderr, "\nreports (lines: inputs):");
+    for (int i = 0; i < 59; i++)
+        if (reports[i]) fprintf(stderr, " %d: %llu", i, (unsigned long long)reports[i]);
+    fprintf(stderr, "\n");
+}
+
 static void must(int holds, const char *what) {
     if (!holds) {
         fprintf(stderr, "VIOLATED: %s\n", what);
@@ -105,16 +121,20 @@ static void mark(uint64_t result) {
     must(number <= 40, "number");
     if (number == 0) {
         reached[41 * 16 + (value - 13) / 19] = 1;
+        reports[(value - 13) / 19]++;
     } else {
         for (; value >> size; size++) must(size < 15, "place");
         reached[number * 16 + size] = 1;
+        refusals[number]++;
     }
 }
 
 int LLVMFuzzerTestOneInput(const uint8_t *data, size_t size) {
     static uint8_t *pages[3];
-    if (pages[0] == NULL)
+    if (pages[0] == NULL) {
         for (int i = 0; i < 3; i++) pages[i] = fenced();
+        must(atexit(print_reached) == 0, "atexit");
+    }
     if (size < HEAD || size > ROOM) return 0;
     size_t day_length = (size_t)data[0] | (size_t)data[1] << 8, length = (size_t)data[2] | (size_t)data[3] << 8;
     if (day_length > size - HEAD) day_length = size - HEAD;
@@ -158,6 +178,7 @@ static void put(uint8_t *at, uint32_t w) {
     for (int i = 0; i < 4; i++) at[i] = (uint8_t)(w >> 8 * i);
 }
 
+/* The size is at least HEAD before and after each change. */
 static size_t mutate(uint8_t *data, size_t size, size_t most, uint64_t seed) {
     static const uint32_t payloads[] = {0,        1,        2,         28,        29,        100,      101,
                                         255,      256,      257,       9999,      10000,     10001,    9999999,
@@ -195,7 +216,7 @@ static size_t mutate(uint8_t *data, size_t size, size_t most, uint64_t seed) {
                     2u << 29 | next_random(&state) % (uint32_t)series | (next_random(&state) & 0x300u));
             break;
         case 7: /* one record more or fewer, header and all */
-            if (records > 0 && batch_words == 1 + 6 * records) {
+            if (records > 0 && batch_words == 1 + 6 * records) { /* so the batch has 28 bytes or more */
                 if (next_random(&state) & 1 && size + 24 <= most) {
                     memcpy(data + size, batch + 4 + 24 * (next_random(&state) % records), 24);
                     size += 24;
@@ -216,11 +237,12 @@ static size_t mutate(uint8_t *data, size_t size, size_t most, uint64_t seed) {
             if (next_random(&state) % 8 == 0) {
                 data[0] = (uint8_t)(data[0] + next_random(&state) % 9 - 4);
             } else if (next_random(&state) % 8 == 0) {
-                size -= next_random(&state) % 8;
+                size_t cut = next_random(&state) % 8;
+                size -= cut < size - HEAD ? cut : size - HEAD;
             }
         }
     }
-    return size < HEAD ? HEAD : size;
+    return size;
 }
 
 #ifndef FUZZ_LOOP

@@ -37,7 +37,8 @@ fn series_premium(day: &[u32], nets: &[i64], book: usize, c: usize, s: usize) ->
     let price = amounts::signed(day_file::closing(day, s));
     let open = worth::worth(day, s, net, price);
     let exercised_net = position_amount(nets, book, 1, s);
-    let exercised = worth::worth(day, s, exercised_net, in_the_money(day, c, s));
+    let value = in_the_money(day, c, s);
+    let exercised = worth::worth(day, s, exercised_net, value);
     amounts::add(open, exercised)
 }
 

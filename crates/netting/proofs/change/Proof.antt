@@ -20,8 +20,10 @@ sub-requires : tie.Need-sub-requires
 sub-requires c κs =
     let s = c .before .before .before .before .before in
     let w = now (s .args .batch) in
+    let p = short w (s .args .r) in
+    let q = long w (s .args .r) in
     rw (sold-is (c .before .before), bought-is c)
-    (sfits-abs _ (omega (arith, natAbs-pos-sub (short w (s .args .r)) (long w (s .args .r)) 536870912 (omega arith) (omega arith))))
+    (sfits-abs _ (omega (arith, natAbs-pos-sub p q 536870912 (omega arith) (omega arith), natAbs-pos-sub q p 536870912 (omega arith) (omega arith))))
 
 returns : tie.Need-returns
 returns c = told (c .sub .ok) (c .sub .ensures) ∙ (λ i. sold-is (c .before .before .before) i -ℤ bought-is (c .before) i)

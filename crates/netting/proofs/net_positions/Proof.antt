@@ -47,10 +47,10 @@ module _ (c : tie.In-loop Inv-loop μ-loop) where
   inside = omega (arith, below, limited .whole)
 
 key-requires : tie.Need-key-requires Inv-loop μ-loop
-key-requires c κs = inside c
+key-requires c κs = omega (arith, inside c)
 
 change-requires : tie.Need-change-requires Inv-loop μ-loop
-change-requires c κs = inside (c .before .before)
+change-requires c κs = omega (arith, inside (c .before .before))
 
 add-at-requires : tie.Need-add-at-requires Inv-loop μ-loop
 add-at-requires c κs =
@@ -62,7 +62,7 @@ add-at-requires c κs =
     )
 
 dvp-amount-requires : tie.Need-dvp-amount-requires Inv-loop μ-loop
-dvp-amount-requires c κs = inside (c .before .before .before .before .before .before)
+dvp-amount-requires c κs = omega (arith, inside (c .before .before .before .before .before .before))
 
 add-at-requires-2 : tie.Need-add-at-requires-2 Inv-loop μ-loop
 add-at-requires-2 c κs =

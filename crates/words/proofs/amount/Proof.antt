@@ -10,12 +10,12 @@ sub-result c = let m = c .before .before .magnitude in less-fits (m .result) (m 
 returns : tie.Need-returns
 returns c =
     let m = c .before .before .magnitude in
-    rw (less-back (m .result) (m .ensures .1), m .ensures .0, ← c .before .negative .ensures, eq-eqb _ _ (c .if1 .taken))
+    rw (less-back (m .result) (m .ensures .1), m .ensures .0, ← c .before .negative .ensures, eq-eqb _ 1 (c .if1 .taken))
 
 returns-2 : tie.Need-returns-2
 returns-2 c =
     let m = c .before .before .magnitude in
-    rw (as-pos (m .result) (m .ensures .1), m .ensures .0, ← c .before .negative .ensures, ne-eqb _ _ (c .if1 .left))
+    rw (as-pos (m .result) (m .ensures .1), m .ensures .0, ← c .before .negative .ensures, ne-eqb _ 1 (c .if1 .left))
 
 pub amount-spec : {M : Type 1} → statement M
 amount-spec =

@@ -2,7 +2,7 @@ use borrow.Author.Needs.{needs}
 use native.Mathlib.Omega.{arith}
 use mathlib.Core.Path.{_≡_, sym, ap, _∙_}
 use mathlib.Core.List.{List}
-use Prim.Native.Nat.{ℕ, _+_, _-_, _≤_}
+use Prim.Native.Nat.{ℕ, _+_, _-_, _≤_, _<_}
 use lib.Count.{ones, ones-le}
 use lib.IntN.{ℤ}
 use lib.ListN.{length, length-append}
@@ -69,7 +69,7 @@ write-group-requires : tie.Need-write-group-requires Inv-loop μ-loop
 write-group-requires c κs =
     let l = c .before .before in
     let p = s l .pre in
-    let h = c .before .loop-test .taken in (
+    let h : l .loop .g < 29 = omega (arith, c .before .loop-test .taken) in (
       p .0,
       (
         p .1 .0,
@@ -97,7 +97,7 @@ loop-again c =
     let l = c .before .before .before .before .before in
     let w = c .before .before .write-group .ensures in
     let g = l .loop .g in
-    let h = c .before .before .before .before .loop-test .taken in
+    let h : g < 29 = omega (arith, c .before .before .before .before .loop-test .taken) in
     let b = linesBelow (d l) (n l) (v l) (k l) g in
     let o = oneLine (d l) (n l) (v l) (k l) g in
     rw (below-more (d l) (n l) (v l) (k l) g) (

@@ -50,7 +50,7 @@ left-over-requires : tie.Need-left-over-requires
 left-over-requires c κs =
     let a = c .before .before in
     let s = told (c .before .short-side .ok) (c .before .short-side .ensures ∙ ap shortSide (net-is a)) in
-    (rw (toZ-ofZ (a .fits .quantity)) (a .pre .0), rw (short-before a) (a .pre .1), rw s (short-small a))
+    (rw (toZ-ofZ (a .fits .quantity)) (a .pre .0), omega (arith, ap natAbs (short-before a), ap natAbs (long-before a), a .pre .1, a .pre .2), rw s (short-small a))
 
 long-side-requires : tie.Need-long-side-requires
 long-side-requires c κs = let a = c .before .before .before in rw (net-is a) (omega (arith, a .pre .3))

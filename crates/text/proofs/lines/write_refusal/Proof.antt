@@ -15,7 +15,7 @@ write-number-requires-2 : tie.Need-write-number-requires-2
 write-number-requires-2 c κs =
     let n = c .before .before .before .write-number in
     let h = c .before .before .before .before .before .before .before .write-head in
-    omega (arith, n .ensures .0, n .kept .0, h .ensures .0, h .kept .0, decimal-length (c .before .before .before .before .before .before .before .before .before .before .before .args .number), c .before .before .before .before .before .before .before .before .before .before .before .pre)
+    omega (arith, n .ensures .0, n .kept .0, h .ensures .0, h .kept .0, decimal-length (c .before .before .before .before .before .before .before .before .before .before .before .args .number), decimal-length (c .before .before .before .before .before .before .before .before .before .before .before .args .place), c .before .before .before .before .before .before .before .before .before .before .before .pre)
 
 write-byte-requires : tie.Need-write-byte-requires
 write-byte-requires c κs =

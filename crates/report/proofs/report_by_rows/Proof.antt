@@ -6,8 +6,8 @@ use Rattle.model.specs.declared.Verdict.the-variants.{Passed}
 use Rattle.model.specs.DayChecks.{dayCheck}
 use Rattle.model.specs.BatchChecks.{batchCheck}
 use Rattle.report.specs.Calls.{answer-day, answer-batch, answer-checked, memory-of}
-use Rattle.report.proofs.report.Statement.{statement}
-use Rattle.report.proofs.report.Tie as tie
+use Rattle.report.proofs.report_by_rows.Statement.{statement}
+use Rattle.report.proofs.report_by_rows.Tie as tie
 
 returns : tie.Need-returns
 returns c =
@@ -37,8 +37,8 @@ returns-3 c =
     let e = r .ensures .0 ∙ answer-checked (now (s .args .day)) (now (s .args .batch)) (length (now (s .args .memory))) (day-fine (c .before .before .before .before .before .before .before)) (batch-fine (c .before .before .before .before)) in
     (e, r .ensures .1 ∙ memory-of (now (s .args .day)) (now (s .args .batch)) (now (s .args .memory)) (r .result) e)
 
-pub report-spec : {M : Type 1} → statement M
-report-spec =
+pub report-by-rows-spec : {M : Type 1} → statement M
+report-by-rows-spec =
     tie.close
     (tie.spec
     (λ c κs. search needs)
