@@ -1,6 +1,6 @@
 use borrow.Author.Needs.{needs}
 use native.Mathlib.Omega.{arith}
-use mathlib.Core.Path.{_≡_, ap, _∙_}
+use mathlib.Core.Path.{_≡_, ap, sym, subst, _∙_}
 use mathlib.Core.List.{List, [], _∷_, _++_}
 use Prim.Native.Nat.{ℕ, _+_, _*_, _^_, _≤_, _<_}
 use lib.Count.{ones, ones-le}
@@ -150,7 +150,7 @@ totals-are c =
 write-headed-at-requires : tie.Need-write-headed-at-requires
 write-headed-at-requires c κs =
     let w = c .before .before .before .before .before .before in
-    ((omega arith, omega arith), (omega (arith, c .before .index2 .ensures, both-kept w, o w .pre .1 .1 .1 .1 .1 .1), rw (totals-are (c .before .before .before)) (small w)))
+    ((omega arith, omega arith), (omega (arith, c .before .index2 .ensures, both-kept w, o w .pre .1 .1 .1 .1 .1 .1), subst Small (sym (totals-are (c .before .before .before))) (small w)))
 
 returns : tie.Need-returns
 returns c =
