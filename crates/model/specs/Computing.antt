@@ -13,7 +13,8 @@ use Rattle.model.specs.Report.{wordsOfAmounts, bookMap, lineWords, bookL
 use Rattle.model.specs.Calls.{verdict, answer, memoryAfter}
 use Rattle.model.specs.Printed.{digits, amountFields, lineText, linesText, countText, totalsText, reportText, refusalText, filesCheck, programText}
 use Rattle.model.specs.Bytes.{wordsOf, bytesOf, row1, row2, bytesCheck, byteAnswer, bytesAfter}
+use Rattle.model.specs.TextReading.{digitsRead, fieldRead, amountRead, lineBytes, linesBytes, placeRead, refusalRead, accountRead, failRead, totalsRead, lastRead, linesRead, countRead, reportRead, textSays}
 
 unfoldable pub everything : Unit {0}
-unfolding firstBad sumTo largest mapBelow blocks ones onesIn foundClass seriesClass seriesGroup row10 row11 badClassWord badSeriesWord badClass badSeries row12 row13 offsetsDiffer row14 row15 row16 row17 dayCheck row20 row21 badRecordWord badDvp row22 row23 row24 row25 row26 batchCheck net dvp row30 nettingCheck leftOver afterOffset minimumRate totalShort totalLong heldFuture spotSize spotSpread nonSpotSpread spread shortBefore longBefore nonSpread mtm premium countedNet classPoint typeNet minimum overClasses groupPoint additional groupSpread groupMtm groupPremium groupMinimum requirement groupSum margin residual lineAmounts heldIn hasLine total wordsOfAmounts bookMap lineWords bookLines lineCount totals reportWords wordsNeeded verdict answer memoryAfter wordsOf bytesOf row1 row2 bytesCheck byteAnswer bytesAfter digits amountFields lineText linesText countText totalsText reportText refusalText filesCheck programText
+unfolding firstBad sumTo largest mapBelow blocks ones onesIn foundClass seriesClass seriesGroup row10 row11 badClassWord badSeriesWord badClass badSeries row12 row13 offsetsDiffer row14 row15 row16 row17 dayCheck row20 row21 badRecordWord badDvp row22 row23 row24 row25 row26 batchCheck net dvp row30 nettingCheck leftOver afterOffset minimumRate totalShort totalLong heldFuture spotSize spotSpread nonSpotSpread spread shortBefore longBefore nonSpread mtm premium countedNet classPoint typeNet minimum overClasses groupPoint additional groupSpread groupMtm groupPremium groupMinimum requirement groupSum margin residual lineAmounts heldIn hasLine total wordsOfAmounts bookMap lineWords bookLines lineCount totals reportWords wordsNeeded verdict answer memoryAfter wordsOf bytesOf row1 row2 bytesCheck byteAnswer bytesAfter digits amountFields lineText linesText countText totalsText reportText refusalText filesCheck programText digitsRead fieldRead amountRead lineBytes linesBytes placeRead refusalRead accountRead failRead totalsRead lastRead linesRead countRead reportRead textSays
 everything = tt
