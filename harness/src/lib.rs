@@ -10,3 +10,4 @@ pub mod rng;
 pub mod samples;
 #[cfg(feature = "unit")]
 pub mod unit;
+pub mod vectors;

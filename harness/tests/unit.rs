@@ -4,8 +4,8 @@ use harness::reading::read_report;
 use harness::reckoner::{call_bytes, reckon, text, to_bytes, to_words, words, Refusal};
 use harness::rng::Rng;
 use harness::unit;
+use harness::vectors::vectors;
 use std::collections::{BTreeMap, BTreeSet};
-use std::path::Path;
 
 const GUARD: usize = 32;
 
@@ -182,22 +182,13 @@ fn every_bit() {
 
 /// The vectors: the printed text from the unit's own bytes.
 #[test]
-fn vectors() {
-    let folder = Path::new(env!("CARGO_MANIFEST_DIR")).join("../vectors");
-    let entries = std::fs::read_dir(folder).unwrap();
+fn agrees_with_the_vectors() {
     let mut fill = Rng::new(61);
-    let mut compared = 0;
-    for case in entries.map(|e| e.unwrap().path()).filter(|p| p.is_dir()) {
-        let name = case.display().to_string();
-        let (Ok(day), Ok(batch)) = (std::fs::read(case.join("day.w32")), std::fs::read(case.join("pos.w32"))) else {
-            continue;
-        };
-        compare(&day, &batch, 4460, &mut fill, &name).ok();
+    for v in vectors() {
+        compare(&v.day, &v.batch, 4460, &mut fill, &v.name).ok();
         let mut memory = vec![0xa5; 4460];
-        let result = unit::call(&day, &batch, &mut memory)
-            .map(|n| read_report(&to_words(&memory)[..n]).unwrap_or_else(|| panic!("no report: {name}")));
-        assert_eq!(text(&result), std::fs::read_to_string(case.join("stdout")).unwrap(), "{name}");
-        compared += 1;
+        let result = unit::call(&v.day, &v.batch, &mut memory)
+            .map(|n| read_report(&to_words(&memory)[..n]).unwrap_or_else(|| panic!("no report: {}", v.name)));
+        assert_eq!(text(&result), v.text, "{}", v.name);
     }
-    assert!(compared >= 80, "{compared} vectors");
 }

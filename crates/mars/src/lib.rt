@@ -133,12 +133,12 @@ pub extern "C" fn mars_read_text(
 {
     match read_text(text) {
         TextSays::Report(totals) => {
-            let first = totals.ordinary;
-            let second = totals.fail;
-            let third = totals.account;
-            *ordinary = first;
-            *fail = second;
-            *account = third;
+            let ordinary_total = totals.ordinary;
+            let fail_total = totals.fail;
+            let account_total = totals.account;
+            *ordinary = ordinary_total;
+            *fail = fail_total;
+            *account = account_total;
             words::wide(totals.lines)
         }
         TextSays::Refusal(number, place) => words::wide(number) * 4294967296 + words::wide(place),

@@ -30,6 +30,10 @@ pub and-true : (a : Bool) → (a && true) ≡ a
 and-true true = refl
 and-true false = refl
 
+pub and-false : (a : Bool) → (a && false) ≡ false
+and-false true = refl
+and-false false = refl
+
 pub and-out : (a b : Bool) → a ≡ false → (a && b) ≡ false
 and-out a b e = rw e
 
