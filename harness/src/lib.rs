@@ -8,6 +8,7 @@ pub mod reading;
 pub mod reckoner;
 pub mod rng;
 pub mod samples;
+pub mod text_reading;
 #[cfg(feature = "unit")]
 pub mod unit;
 pub mod vectors;

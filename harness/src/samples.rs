@@ -34,8 +34,8 @@ fn fail() -> Account {
     let theoretical = moved(125_000, SHARE_MOVES);
     let series = Series { series_type: EQUITY, multiplier: 1, closing: 125_000, theoretical, ..Series::default() };
     let ordinary = Record { long: 1_000, dvp: -123_000_000, ..Record::default() };
-    let failed = Record { short: 400, dvp: 48_800_000, fail: true, ..Record::default() };
-    account(&[class], &[series], &[ordinary, failed])
+    let fail = Record { short: 400, dvp: 48_800_000, fail: true, ..Record::default() };
+    account(&[class], &[series], &[ordinary, fail])
 }
 
 /// M1's futures, each with a spread and the September contract with a rest.

@@ -1,9 +1,11 @@
-//! The unit's byte call, linked from its static library; for the benchmark its netting alone.
+//! The unit's calls for a C host, linked from its static library; for the benchmark its netting alone.
 use crate::reckoner::Refusal;
+use crate::text_reading::Said;
 
 extern "C" {
     fn mars_report(day: *const u8, day_len: usize, batch: *const u8, batch_len: usize, report: *mut u8, report_len: usize)
         -> u64;
+    fn mars_read_text(text: *const u8, text_len: usize, ordinary: *mut i64, fail: *mut i64, account: *mut i64) -> u64;
 }
 
 /// The call as a host makes it: number 0 and the report's length in words, or the refusal.
@@ -16,6 +18,25 @@ pub fn call(day: &[u8], batch: &[u8], memory: &mut [u8]) -> Result<usize, Refusa
     } else {
         Err(Refusal { number, place: value })
     }
+}
+
+/// A printed text read back. Numbers that are lent for the totals must stay unless the text is a report's.
+pub fn read_text(text: &[u8]) -> Said {
+    let before = [i64::MIN, 7, -7];
+    let [mut ordinary, mut fail, mut account] = before;
+    // No precondition: any bytes, and three distinct numbers.
+    let r = unsafe { mars_read_text(text.as_ptr(), text.len(), &mut ordinary, &mut fail, &mut account) };
+    let totals = [ordinary, fail, account];
+    let (number, value) = ((r >> 32) as u32, (r & 0xffff_ffff) as u32);
+    if number == 0 {
+        return Said::Report(value, totals);
+    }
+    assert_eq!(totals, before, "no report, yet a total was stored");
+    if number == u32::MAX {
+        assert_eq!(value, 0);
+        return Said::Unreadable;
+    }
+    Said::Refusal(number, value)
 }
 
 #[cfg(feature = "bench")]

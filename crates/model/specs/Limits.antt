@@ -1,4 +1,4 @@
--- The limits of the scope, each once, and the sizes that they leave to sums. Amounts are ten-thousandths of a euro.
+-- The limits that amounts depend on, each once, and the sizes that they leave to sums. Amounts are ten-thousandths of a euro.
 use Prim.Native.Nat.{ℕ, _+_, _*_, _/_}
 
 -- a price or a rate

@@ -26,7 +26,7 @@ use Rattle.numbers.specs.Put.{put, put-front}
 use Rattle.text.specs.Room.{Room}
 
 abbrev pub filesAnswer : Bool → List ℕ → Bool → List ℕ → Answer
-filesAnswer first day second batch = answerOf (filesCheck first day second batch) (answer (wordsOf day) (wordsOf batch) 1115)
+filesAnswer dayOpened day batchOpened batch = answerOf (filesCheck dayOpened day batchOpened batch) (answer (wordsOf day) (wordsOf batch) 1115)
 
 -- what is printed of the call over words
 abbrev pub callText : List ℕ → List ℕ → List ℕ → List ℕ
@@ -35,31 +35,31 @@ callText d b m = printed (answer d b (length m)) (memoryAfter d b m)
 -- ---- the answer by cases
 
 module _ (day batch : List ℕ) where
-  pub unopened-day : (first second : Bool) → not first ≡ true → Refused (Bytes DayFile 0) ≡ filesAnswer first day second batch
+  pub unopened-day : (dayOpened batchOpened : Bool) → not dayOpened ≡ true → Refused (Bytes DayFile 0) ≡ filesAnswer dayOpened day batchOpened batch
   unfolding filesCheck
-  unopened-day false second e = refl
-  unopened-day true second e = cc
+  unopened-day false batchOpened e = refl
+  unopened-day true batchOpened e = cc
 
-  pub bad-day : (first second : Bool) → not first ≡ false → not second ≡ true → badBytes day 4865 ≡ true → Refused (Bytes DayFile 0) ≡ filesAnswer first day second batch
+  pub bad-day : (dayOpened batchOpened : Bool) → not dayOpened ≡ false → not batchOpened ≡ true → badBytes day 4865 ≡ true → Refused (Bytes DayFile 0) ≡ filesAnswer dayOpened day batchOpened batch
   unfolding filesCheck row1
   bad-day true false o p e = rw e
   bad-day true true o p e = cc
-  bad-day false second o p e = cc
+  bad-day false batchOpened o p e = cc
 
-  pub unopened-batch : (first second : Bool) → not first ≡ false → not second ≡ true → badBytes day 4865 ≡ false → Refused (Bytes BatchFile 0) ≡ filesAnswer first day second batch
+  pub unopened-batch : (dayOpened batchOpened : Bool) → not dayOpened ≡ false → not batchOpened ≡ true → badBytes day 4865 ≡ false → Refused (Bytes BatchFile 0) ≡ filesAnswer dayOpened day batchOpened batch
   unfolding filesCheck row1
   unopened-batch true false o p e = rw e
   unopened-batch true true o p e = cc
-  unopened-batch false second o p e = cc
+  unopened-batch false batchOpened o p e = cc
 
   whole-room : byteAnswer day batch 4460 ≡ filesAnswer true day true batch
   unfolding filesCheck byteAnswer bytesCheck
   whole-room = refl
 
-  pub opened : (first second : Bool) → not first ≡ false → not second ≡ false → (m : List ℕ) → m ≡ replicate 4460 0 → byteAnswer day batch (length m) ≡ filesAnswer first day second batch
+  pub opened : (dayOpened batchOpened : Bool) → not dayOpened ≡ false → not batchOpened ≡ false → (m : List ℕ) → m ≡ replicate 4460 0 → byteAnswer day batch (length m) ≡ filesAnswer dayOpened day batchOpened batch
   opened true true o p m e = ap (byteAnswer day batch) (ap length e ∙ length-replicate {A = ℕ} 4460 0) ∙ whole-room
   opened true false o p m e = cc
-  opened false second o p m e = cc
+  opened false batchOpened o p m e = cc
 
   pub opened-bytes : (r : Answer) (m : List ℕ) → m ≡ replicate 4460 0 → r ≡ byteAnswer day batch (length m) → bytesAfter day batch m ≡ writtenBytes r (report (wordsOf day) (wordsOf batch)) (replicate 4460 0)
   unfolding bytesAfter
@@ -88,16 +88,16 @@ after-written : (d b m : List ℕ) (n : ℕ) → answer d b (length m) ≡ Repor
 unfolding memoryAfter
 after-written d b m n e = rw e
 
-shown : (first : Bool) (day : List ℕ) (second : Bool) (batch : List ℕ) (r : Answer) (w : List ℕ)
-    → r ≡ filesAnswer first day second batch → w ≡ wordsOf (writtenBytes r (report (wordsOf day) (wordsOf batch)) (replicate 4460 0))
-    → (printed r w ≡ programText first day second batch) × Room r w
+shown : (dayOpened : Bool) (day : List ℕ) (batchOpened : Bool) (batch : List ℕ) (r : Answer) (w : List ℕ)
+    → r ≡ filesAnswer dayOpened day batchOpened batch → w ≡ wordsOf (writtenBytes r (report (wordsOf day) (wordsOf batch)) (replicate 4460 0))
+    → (printed r w ≡ programText dayOpened day batchOpened batch) × Room r w
 unfolding programText
-shown first day second batch (Refused k) w e q =
+shown dayOpened day batchOpened batch (Refused k) w e q =
     (ap (λ (a : Answer). printed a (memoryAfter (wordsOf day) (wordsOf batch) (replicate 1115 0))) e, tt)
-shown first day second batch (Report n) w e q =
+shown dayOpened day batchOpened batch (Report n) w e q =
     let d = wordsOf day in
     let b = wordsOf batch in
-    let a : answer d b 1115 ≡ Report n = the-report (filesCheck first day second batch) (answer d b 1115) n (sym e) in
+    let a : answer d b 1115 ≡ Report n = the-report (filesCheck dayOpened day batchOpened batch) (answer d b 1115) n (sym e) in
     let z : w ≡ report d b ++ drop n (replicate 1115 0) = q ∙ after-report d b n a in (
       ap (printed (Report n)) (z ∙ sym (after-written d b (replicate 1115 0) n (ap (answer d b) (length-replicate {A = ℕ} 1115 0) ∙ a))) ∙ ap (λ (x : Answer). printed x (memoryAfter d b (replicate 1115 0))) e,
       rw z (omega (arith, count-read d (net b) (dvp b) (drop n (replicate 1115 0)), count-small d (net b) (dvp b))),
@@ -108,11 +108,11 @@ replaced : (w l : List ℕ) → length w ≡ length l → put 0 w l ≡ w
 replaced w l e = put-front w l ∙ ap (λ (x : List ℕ). w ++ x) (ap (λ (n : ℕ). drop n l) e ∙ drop-length l) ∙ append-nil w
 
 -- what the words decoded from the memory print
-pub decoded : (first : Bool) (day : List ℕ) (second : Bool) (batch : List ℕ) (r : Answer) (m : List ℕ)
-    → r ≡ filesAnswer first day second batch → m ≡ writtenBytes r (report (wordsOf day) (wordsOf batch)) (replicate 4460 0) → length m ≡ 4460
-    → (l w : List ℕ) → length l ≡ 1115 → w ≡ put 0 (wordsOf m) l → (printed r w ≡ programText first day second batch) × Room r w
-decoded first day second batch r m e p n l w k q =
-    shown first day second batch r w e (q ∙ replaced (wordsOf m) l (omega (arith, words-length m, n, k)) ∙ ap wordsOf p)
+pub decoded : (dayOpened : Bool) (day : List ℕ) (batchOpened : Bool) (batch : List ℕ) (r : Answer) (m : List ℕ)
+    → r ≡ filesAnswer dayOpened day batchOpened batch → m ≡ writtenBytes r (report (wordsOf day) (wordsOf batch)) (replicate 4460 0) → length m ≡ 4460
+    → (l w : List ℕ) → length l ≡ 1115 → w ≡ put 0 (wordsOf m) l → (printed r w ≡ programText dayOpened day batchOpened batch) × Room r w
+decoded dayOpened day batchOpened batch r m e p n l w k q =
+    shown dayOpened day batchOpened batch r w e (q ∙ replaced (wordsOf m) l (omega (arith, words-length m, n, k)) ∙ ap wordsOf p)
 
 pub long : (m l : List ℕ) → length m ≡ length l → l ≡ replicate 4460 0 → length m ≡ 4460
 long m l e f = e ∙ ap length f ∙ length-replicate {A = ℕ} 4460 0

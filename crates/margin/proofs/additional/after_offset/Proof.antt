@@ -2,7 +2,7 @@ use borrow.Author.Needs.{needs}
 use native.Mathlib.Omega.{arith}
 use mathlib.Core.Path.{_≡_, _∙_}
 use mathlib.Core.Bool.{true, false}
-use Prim.Native.Nat.{ℕ, _≤_}
+use Prim.Native.Nat.{ℕ, _*_, _/_, _≤_}
 use lib.Dec.{lit<}
 use lib.IntN.{ℤ, pos, _+ℤ_, _*ℤ_, natAbs}
 use lib.Signed.{leZ, quotZ, remZ}
@@ -11,6 +11,7 @@ use mir.Val.{SFits, toZ, ofZ}
 use mir.Facts.{toZ-ofZ}
 use Rattle.numbers.specs.Abs.{sfits-abs, wide, natAbs-+, natAbs-*-le}
 use Rattle.numbers.specs.Quot.{natAbs-quot, natAbs-rem}
+use Rattle.model.specs.Limits.{worthLimit}
 use Rattle.margin.specs.Offset.{debit-whole, credit-split}
 use Rattle.margin.proofs.additional.after_offset.Statement.{statement}
 use Rattle.margin.proofs.additional.after_offset.Tie as tie
@@ -42,7 +43,7 @@ module _ (c : tie.Else1) where
   p-is = wide p (omega (arith, c .before .pre .0))
 
   -- what each operation gives fits
-  q-small : natAbs q ≤ 13000000000000000
+  q-small : natAbs q ≤ worthLimit / 100
   q-small = omega (arith, natAbs-quot z 100, c .before .pre .1)
 
   q-fits : SFits w64 q
@@ -54,8 +55,8 @@ module _ (c : tie.Else1) where
   m-fits : SFits w64 m
   m-fits = sfits-abs m (omega (arith, m-small))
 
-  qp-small : natAbs (q *ℤ pos p) ≤ 1300000000000000000
-  qp-small = natAbs-*-le q (pos p) 13000000000000000 100 q-small (c .before .pre .0)
+  qp-small : natAbs (q *ℤ pos p) ≤ worthLimit / 100 * 100
+  qp-small = natAbs-*-le q (pos p) (worthLimit / 100) 100 q-small (c .before .pre .0)
 
   qp-fits : SFits w64 (q *ℤ pos p)
   qp-fits = sfits-abs _ (omega (arith, qp-small))
