@@ -18,9 +18,9 @@ use margin::line::group_line;
 use words::index;
 
 // Where the next line goes, and the margins so far.
-pub struct Progress {
-    pub at: usize,
-    pub total: i64,
+struct Progress {
+    at: usize,
+    total: i64,
 }
 
 // Group g: its line, if it has one, and its margin.
