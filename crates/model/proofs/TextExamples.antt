@@ -20,7 +20,11 @@ pub refusal-says : textSays (ascii "REFUSED 30 7\n") ≡ Refusal 30 7
 unfolding everything ascii
 refusal-says = refl
 
--- a line too few, no newline, bytes behind the end, minus zero
+-- no space before a field, a line too few, no newline, bytes behind the end, minus zero
+pub no-space : textSays (ascii "REFUSED:30 7\n") ≡ Unreadable
+unfolding everything ascii
+no-space = refl
+
 pub few-lines : textSays (ascii "MARGIN 1\nTOTAL 1 2 3\n") ≡ Unreadable
 unfolding everything ascii
 few-lines = refl

@@ -1,13 +1,16 @@
--- Accounts beside the papers' figures, for what no figure of theirs shows: the rate of each type, an exercised put, a line held by an exercised position alone.
+-- Accounts beside the papers' figures, for what no figure of theirs shows: the rate of each type, an exercised put, a line held by an exercised position alone, fields at their limits.
 use mathlib.Core.Path.{_≡_, refl}
 use mathlib.Core.List.{List, [], _∷_, _++_}
 use Prim.Native.Nat.{ℕ, _+_, _^_}
-use lib.IntN.{pos}
+use lib.IntN.{ℤ, pos}
 use lib.ListN.{replicate}
+use Rattle.model.specs.declared.Answer.{Answer}
+use Rattle.model.specs.Answers.{statusOf}
 use Rattle.model.specs.Netting.{net, dvp}
 use Rattle.model.specs.Steps.{minimum, premium, classPoint}
 use Rattle.model.specs.Report.{lineCount}
-use Rattle.model.specs.Accounts.{Figure, allComputed, allPublished, minus, ten, dayFile, classRecord, seriesRecord, batchFile, positionRecord, lineOf, status}
+use Rattle.model.specs.Calls.{verdict, answerOf}
+use Rattle.model.specs.Accounts.{Figure, allComputed, allPublished, minus, ten, noRates, dayFile, classRecord, seriesRecord, batchFile, positionRecord, lineOf, status}
 use Rattle.model.specs.Computing.{everything}
 
 -- one series of each type; minimum rates 2, 3, 5, 7 and 11 units for options, futures, equities, warrants and rights
@@ -25,6 +28,10 @@ types =
 abbrev oneShort : ℕ → List ℕ
 oneShort s = batchFile 1 (positionRecord s 0 1 (pos 0))
 
+-- whether the account is accepted, and its minimum
+abbrev minimumAlone : ℕ → List ℤ
+minimumAlone s = status types (oneShort s) ∷ minimum types (net (oneShort s)) 0 0 ∷ []
+
 -- a put on 100 shares, strike 6, underlying 5, D5 4 and U5 6; two of them exercised
 abbrev put : List ℕ
 put =
@@ -35,20 +42,21 @@ put =
 abbrev putsExercised : List ℕ
 putsExercised = batchFile 1 (positionRecord (2 ^ 8) 2 0 (pos 0))
 
+-- classes 31 and 63 of groups 3 and 28, whose offsets differ; a share with the largest multiplier and price, and the largest DVP for it
+abbrev edges : List ℕ
+edges =
+    dayFile 2 1
+    (classRecord 3 31 noRates 50 (ten 0) ++ (classRecord 28 63 noRates 100 (ten 0) ++ seriesRecord 63 4 0 10000 (0 ∷ 500000000 ∷ []) (ten 0)))
+
+abbrev edgesHeld : List ℕ
+edgesHeld = batchFile 1 (positionRecord 0 0 0 (minus 5000000000000000))
+
 unfoldable pub cases : List Figure
 cases =
     -- the minimum of one short future, call, put, equity, warrant and rights issue, each alone
     record {
-      computed =
-          status types (oneShort 5)
-          ∷ minimum types (net (oneShort 0)) 0 0
-          ∷ minimum types (net (oneShort 1)) 0 0
-          ∷ minimum types (net (oneShort 2)) 0 0
-          ∷ minimum types (net (oneShort 3)) 0 0
-          ∷ minimum types (net (oneShort 4)) 0 0
-          ∷ minimum types (net (oneShort 5)) 0 0
-          ∷ [];
-      published = pos 0 ∷ pos 3 ∷ pos 2 ∷ pos 2 ∷ pos 5 ∷ pos 7 ∷ pos 11 ∷ [];
+      computed = minimumAlone 0 ++ minimumAlone 1 ++ minimumAlone 2 ++ minimumAlone 3 ++ minimumAlone 4 ++ minimumAlone 5;
+      published = pos 0 ∷ pos 3 ∷ pos 0 ∷ pos 2 ∷ pos 0 ∷ pos 2 ∷ pos 0 ∷ pos 5 ∷ pos 0 ∷ pos 7 ∷ pos 0 ∷ pos 11 ∷ [];
     }
     -- the puts: premium −200, −200 at D5 and 200 at U5
     ∷ record {
@@ -64,6 +72,11 @@ cases =
     ∷ record {
       computed = pos (lineCount put (net putsExercised) (dvp putsExercised)) ∷ lineOf put putsExercised 6;
       published = pos 1 ∷ pos 0 ∷ pos 0 ∷ minus 2000000 ∷ pos 2000000 ∷ pos 0 ∷ pos 0 ∷ [];
+    }
+    -- fields at their limits pass the rows above 40: the DVP is the MTM and the margin of group 28
+    ∷ record {
+      computed = pos (statusOf (answerOf (verdict edges edgesHeld) (Answer.Report 0))) ∷ lineOf edges edgesHeld 28;
+      published = pos 0 ∷ pos 0 ∷ pos 5000000000000000 ∷ pos 0 ∷ pos 0 ∷ pos 5000000000000000 ∷ pos 0 ∷ [];
     }
     ∷ []
 

@@ -46,20 +46,26 @@ refusals =
       computed = numbersOf (byteAnswer (0 ∷ []) [] 0) ++ numbersOf (byteAnswer [] (0 ∷ 0 ∷ []) 0);
       published = pos 1 ∷ pos 0 ∷ pos 2 ∷ pos 0 ∷ [];
     }
-    -- 10: no words, another kind, a spare bit, 65 classes
+    -- 10: no words, another kind, a spare bit, 65 classes, 257 series
     ∷ record {
       computed =
           answerNumbers [] none ++ answerNumbers (changed 0 (word 2 385)) none
           ++ answerNumbers (changed 0 (word 1 (2 ^ 16 + 385))) none
-          ++ answerNumbers (word 1 65 ∷ []) none;
-      published = pos 10 ∷ pos 0 ∷ pos 10 ∷ pos 0 ∷ pos 10 ∷ pos 0 ∷ pos 10 ∷ pos 0 ∷ [];
+          ++ answerNumbers (word 1 65 ∷ []) none
+          ++ answerNumbers (word 1 (2 ^ 7 * 257) ∷ []) none;
+      published = pos 10 ∷ pos 0 ∷ pos 10 ∷ pos 0 ∷ pos 10 ∷ pos 0 ∷ pos 10 ∷ pos 0 ∷ pos 10 ∷ pos 0 ∷ [];
     }
     -- 11: a word too many
     ∷ record { computed = answerNumbers (day ++ 0 ∷ []) none; published = pos 11 ∷ pos 0 ∷ [] }
-    -- 12: an offset of 101 in the class, a multiplier of 0 in the second series
+    -- 12: a spare bit of the class's key, group 29, an offset of 101; a multiplier of 10,001 and a price above its limit in the first series, a multiplier of 0 in the second
     ∷ record {
-      computed = answerNumbers (changed 10 (word 4 101)) none ++ answerNumbers (changed 36 (word 4 0)) none;
-      published = pos 12 ∷ pos 0 ∷ pos 12 ∷ pos 2 ∷ [];
+      computed =
+          answerNumbers (changed 1 (word 2 (2 + 2 ^ 11))) none ++ answerNumbers (changed 1 (word 2 29)) none
+          ++ answerNumbers (changed 10 (word 4 101)) none
+          ++ answerNumbers (changed 22 (word 4 10001)) none
+          ++ answerNumbers (changed 24 (word 3 500000001)) none
+          ++ answerNumbers (changed 36 (word 4 0)) none;
+      published = pos 12 ∷ pos 0 ∷ pos 12 ∷ pos 0 ∷ pos 12 ∷ pos 0 ∷ pos 12 ∷ pos 1 ∷ pos 12 ∷ pos 1 ∷ pos 12 ∷ pos 2 ∷ [];
     }
     -- 13: a class number again
     ∷ record {
@@ -90,13 +96,14 @@ refusals =
     }
     -- 21: a record too few, a word too many
     ∷ record { computed = answerNumbers day (word 1 1 ∷ []) ++ answerNumbers day (none ++ 0 ∷ []); published = pos 21 ∷ pos 0 ∷ pos 21 ∷ pos 0 ∷ [] }
-    -- 22: a spare bit of the key; a quantity above its limit; minus zero
+    -- 22: a spare bit of the key; a quantity and a DVP above their limits; minus zero
     ∷ record {
       computed =
           answerNumbers day (held (positionRecord (2 ^ 10) 0 1 (pos 0)))
           ++ answerNumbers day (held (positionRecord 2 10000001 0 (pos 0)))
+          ++ answerNumbers day (held (positionRecord 2 0 1 (pos 5000000000000001)))
           ++ answerNumbers day (held (word 2 2 ∷ word 4 0 ∷ word 4 0 ∷ word 5 (2 ^ 28) ∷ word 6 0 ∷ word 6 0 ∷ []));
-      published = pos 22 ∷ pos 1 ∷ pos 22 ∷ pos 1 ∷ pos 22 ∷ pos 1 ∷ [];
+      published = pos 22 ∷ pos 1 ∷ pos 22 ∷ pos 1 ∷ pos 22 ∷ pos 1 ∷ pos 22 ∷ pos 1 ∷ [];
     }
     -- 23: a fourth series
     ∷ record { computed = answerNumbers day (held (positionRecord 3 0 1 (pos 0))); published = pos 23 ∷ pos 1 ∷ [] }
