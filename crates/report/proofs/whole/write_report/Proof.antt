@@ -125,11 +125,11 @@ module _ (c : tie.After-write-book2) where
   both-kept : length (c .write-book2 .last .1 .1 .1 .1 .1 .1 .0) ≡ length (m o)
   both-kept = c .write-book2 .kept .1 .1 .1 .1 .1 .1 .0 ∙ ordinary-kept (c .before .before .before .before .before)
 
-  owed-is : toZ w64 (ofZ w64 (c .before .before .before .before .before .write-book .result)) ≡ total (d o) (n o) (v o) 0
-  owed-is = back (c .before .before .before .before .before .write-book .ensures .0) (total-small (d o) (n o) (v o) (o .pre .0) (o .pre .1 .0) 0 (omega arith))
+  ordinary-is : toZ w64 (ofZ w64 (c .before .before .before .before .before .write-book .result)) ≡ total (d o) (n o) (v o) 0
+  ordinary-is = back (c .before .before .before .before .before .write-book .ensures .0) (total-small (d o) (n o) (v o) (o .pre .0) (o .pre .1 .0) 0 (omega arith))
 
-  failed-is : toZ w64 (ofZ w64 (c .write-book2 .result)) ≡ total (d o) (n o) (v o) 1
-  failed-is = back (c .write-book2 .ensures .0) (total-small (d o) (n o) (v o) (o .pre .0) (o .pre .1 .0) 1 (omega arith))
+  fail-is : toZ w64 (ofZ w64 (c .write-book2 .result)) ≡ total (d o) (n o) (v o) 1
+  fail-is = back (c .write-book2 .ensures .0) (total-small (d o) (n o) (v o) (o .pre .0) (o .pre .1 .0) 1 (omega arith))
 
   small : Small (totals (d o) (n o) (v o))
   small = totals-small (d o) (n o) (v o) (o .pre .0) (o .pre .1 .0)
@@ -137,15 +137,15 @@ module _ (c : tie.After-write-book2) where
 add-requires : tie.Need-add-requires
 add-requires c κs =
     let w = c .before .before in
-    fits-by (λ i. owed-is w i +ℤ failed-is w i) (account-small (d (o w)) (n (o w)) (v (o w)) (o w .pre .0) (o w .pre .1 .0))
+    fits-by (λ i. ordinary-is w i +ℤ fail-is w i) (account-small (d (o w)) (n (o w)) (v (o w)) (o w .pre .0) (o w .pre .1 .0))
 
 -- the three totals as they are handed on
 totals-are : (c : tie.After-add) → (toZ w64 (ofZ w64 (c .before .before .before .before .before .before .before .before .write-book .result)) ∷ toZ w64 (ofZ w64 (c .before .before .before .write-book2 .result)) ∷ toZ w64 (ofZ w64 (c .add .result)) ∷ []) ≡ totals (d (o (c .before .before .before))) (n (o (c .before .before .before))) (v (o (c .before .before .before)))
 unfolding totals
 totals-are c =
     let w = c .before .before .before in
-    let e = told (c .add .ok) (c .add .ensures) ∙ (λ i. owed-is w i +ℤ failed-is w i) in
-    λ i. owed-is w i ∷ failed-is w i ∷ e i ∷ []
+    let e = told (c .add .ok) (c .add .ensures) ∙ (λ i. ordinary-is w i +ℤ fail-is w i) in
+    λ i. ordinary-is w i ∷ fail-is w i ∷ e i ∷ []
 
 write-headed-at-requires : tie.Need-write-headed-at-requires
 write-headed-at-requires c κs =

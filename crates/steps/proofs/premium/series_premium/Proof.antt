@@ -49,9 +49,9 @@ net-is p = told (p .position-amount .ok) (p .position-amount .ensures)
 price-is : (p : tie.After-signed) → toZ w64 (ofZ w64 (p .signed .result)) ≡ (let x = p .before .before .before .before .before .before .before in pos (closing (d x) (s x)))
 price-is p = told (p .signed .ok) (p .signed .ensures ∙ ap pos (p .before .closing .ensures))
 
-taken-is : (p : tie.After-position-amount2)
+exercised-net-is : (p : tie.After-position-amount2)
     → toZ w64 (ofZ w64 (p .position-amount2 .result)) ≡ (let x = p .before .before .before .before .before .before .before .before .before in exercisedNet (n x) (k x) (s x))
-taken-is p = told (p .position-amount2 .ok) (p .position-amount2 .ensures)
+exercised-net-is p = told (p .position-amount2 .ok) (p .position-amount2 .ensures)
 
 money-is : (p : tie.After-in-the-money)
     → toZ w64 (ofZ w64 (p .in-the-money .result)) ≡ (let x = p .before .before .before .before .before .before .before .before .before .before in inTheMoney (d x) (c x) (s x))
@@ -74,7 +74,7 @@ worth-requires-2 p κs =
     let h = x .pre .1 in (
       search needs,
       (
-        rw (taken-is (p .before)) (contracts-size (d x) (x .args .nets .now) (x .pre .0) (k x) 1 (s x) (h .0) (omega arith) (h .2)),
+        rw (exercised-net-is (p .before)) (contracts-size (d x) (x .args .nets .now) (x .pre .0) (k x) 1 (s x) (h .0) (omega arith) (h .2)),
         rw (money-is p) (money-size (d x) (x .pre .0 .day .rows) (c x) (s x) (h .1) (h .2) .1),
       ),
     )
@@ -86,7 +86,7 @@ value-is p =
     let w = p .before .before .before in
     let x = w .before .before .before .before .before .before .before .before in
     λ i. told (w .worth .ok) (w .worth .ensures ∙ (λ j. worth (d x) (s x) (net-is (w .before .before .before) j) (price-is (w .before) j))) i
-    +ℤ told (p .worth2 .ok) (p .worth2 .ensures ∙ (λ j. worth (d x) (s x) (taken-is (p .before .before) j) (money-is (p .before) j))) i
+    +ℤ told (p .worth2 .ok) (p .worth2 .ensures ∙ (λ j. worth (d x) (s x) (exercised-net-is (p .before .before) j) (money-is (p .before) j))) i
 
 add-requires : tie.Need-add-requires
 add-requires p κs =
