@@ -7,7 +7,7 @@ use libc::STDOUT_FILENO;
 
 // Whether a file was opened and read whole: nothing is left behind what was read, or the buffer is full. Else it counts as not opened.
 fn was_read(fd: i32, full: bool) -> bool
-    ensures { λ r. ⌜ (ltZ fd (pos 0) ≡ true → r ≡ false) ⌝ }
+    ensures { λ r. ⌜ (ltZ fd (pos 0) ≡ true → r ≡ false) × (ltZ fd (pos 0) ≡ false → full ≡ true → r ≡ true) ⌝ }
 {
     if fd < 0 {
         return false;

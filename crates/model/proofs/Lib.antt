@@ -18,7 +18,6 @@ pub mod Edits
 pub mod Demand
 pub mod Readable
 pub mod Whole
-pub mod Example
 pub mod Records
 pub mod Together
 pub mod Verdicts

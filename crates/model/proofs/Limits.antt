@@ -82,7 +82,7 @@ module _ (d : List ℕ) (r : DayRows d) where
 module _ (d b : List ℕ) (r : BatchChecks d b) where
   pub few-records : recordCount b ≤ mostRecords
   unfolding row20
-  few-records = ltb-false mostRecords (recordCount b) (or-right (eqb (length b) 0 || not (eqb (kind (batchHeader b)) 1)) (ltb 256 (recordCount b)) (r .at20))
+  few-records = ltb-false mostRecords (recordCount b) (or-right (eqb (length b) 0 || not (eqb (kind (batchHeader b)) 1)) (ltb mostRecords (recordCount b)) (r .at20))
 
   pub batch-length : length b ≡ 1 + 6 * recordCount b
   unfolding row21

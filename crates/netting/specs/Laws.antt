@@ -13,7 +13,7 @@ use Rattle.numbers.specs.Abs.{cond-ind, natAbs-+, natAbs-pos-sub, fits-by, back
 use Rattle.numbers.specs.Slots.{slot, slots, slots-more}
 use Rattle.numbers.specs.Sums.{sumTo-abs}
 use Rattle.numbers.specs.Table.{tabulate, length-tabulate, getD-tabulate}
-use Rattle.model.specs.Limits.{contractsLimit, quantityLimit, dvpAmountLimit}
+use Rattle.model.specs.Limits.{contractsLimit, quantityLimit, dvpAmountLimit, mostRecords}
 use Rattle.model.specs.Batch.{recordCount, key, long, short}
 use Rattle.model.specs.Netting.{net}
 use Rattle.netting.specs.Limits.{Limited}
@@ -33,7 +33,7 @@ module _ (m : ℕ) (key : ℕ → ℕ) (f : ℕ → ℤ) (l : List ℤ) (r k : �
   pub slot-added : set l k (getD l k (pos 0) +ℤ z) ≡ slots m key f (r + 1)
   slot-added = (λ i. set (e i) (q i) (entry i +ℤ w i)) ∙ slots-more m key f r h
 
-  pub slot-fits : (n : ℕ) → r < n → n ≤ 256 → ((i : ℕ) → i < n → natAbs (f i) ≤ dvpAmountLimit) → SFits w64 (getD l k (pos 0) +ℤ z)
+  pub slot-fits : (n : ℕ) → r < n → n ≤ mostRecords → ((i : ℕ) → i < n → natAbs (f i) ≤ dvpAmountLimit) → SFits w64 (getD l k (pos 0) +ℤ z)
   slot-fits n hr hn small =
       fits-by (λ i. entry i +ℤ w i)
       (omega (

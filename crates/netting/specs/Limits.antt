@@ -4,7 +4,7 @@ use mathlib.Core.List.{List}
 use Prim.Native.Nat.{ℕ, _+_, _*_, _≤_, _<_}
 use lib.IntN.{natAbs}
 use lib.ListN.{length}
-use Rattle.model.specs.Limits.{quantityLimit, dvpAmountLimit}
+use Rattle.model.specs.Limits.{quantityLimit, dvpAmountLimit, mostRecords}
 use Rattle.model.specs.DayFile.{classCount, seriesCount}
 use Rattle.model.proofs.Accepted.{DayRows, BatchChecks}
 use Rattle.model.proofs.Limits.{batch-length, few-records, long-limit, short-limit, dvp-limit, place-limit, day-length}
@@ -12,7 +12,7 @@ use Rattle.model.specs.Batch.{recordCount, place, long, short, dvpAmount}
 
 pub record Limited (b : List ℕ) : Type 0 where
   pub whole : length b ≡ 1 + 6 * recordCount b
-  pub few : recordCount b ≤ 256
+  pub few : recordCount b ≤ mostRecords
   pub longs : (r : ℕ) → r < recordCount b → long b r ≤ quantityLimit
   pub shorts : (r : ℕ) → r < recordCount b → short b r ≤ quantityLimit
   pub dvps : (r : ℕ) → r < recordCount b → natAbs (dvpAmount b r) ≤ dvpAmountLimit
