@@ -50,7 +50,7 @@ loop-holds c = (search needs, tabulate-getD (a c) 10 (pos 0) (la c) ∙ filled-n
 change-amount-requires : tie.Need-change-amount-requires Inv-loop μ-loop
 change-amount-requires c κs =
     let s = c .before .before .before .before in
-    (rw (contracts-is s) (s .pre .0 .0), s .pre .0 .1, s .pre .0 .2 (c .before .before .before .loop .k) (omega arith))
+    (rw (contracts-is s) (s .pre .0 .0), s .pre .0 .1, s .pre .0 .2 _ (omega arith))
 
 amount-is : (c : tie.After-change-amount Inv-loop μ-loop)
     → toZ w64 (ofZ w64 (c .change-amount .result)) ≡ change (c .before .before .before .before .before) (c .before .before .before .before .loop .k)
