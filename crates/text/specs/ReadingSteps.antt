@@ -12,7 +12,8 @@ use lib.IntN.{ℤ, pos, negℤ, natAbs}
 use lib.ListN.{length, take, drop, getD, length-drop}
 use lib.Seq.{take-all, drop-cons, drop-length}
 use mir.Syntax.{w64}
-use mir.Val.{SFits}
+use mir.Val.{toZ, ofZ}
+use mir.Facts.{toZ-ofZ}
 use Rattle.numbers.specs.Abs.{natAbs-neg, sfits-abs}
 use Rattle.model.specs.declared.NumberRead.{NumberRead}
 use Rattle.model.specs.declared.NumberRead.the-variants.{Number, NoNumber}
@@ -105,8 +106,13 @@ field-within t = by (begins (32 ∷ []) t) refl
 pub number-within : (t : List ℕ) (n k : ℕ) → decimalRead t ≡ Number n k → k ≤ length t
 number-within t n k e = omega (arith, ap usedBy e, digits-used t 0 0)
 
-pub field-used : (t : List ℕ) (n k : ℕ) → fieldRead t ≡ Number n k → k ≤ length t
-field-used t n k e = omega (arith, ap usedBy e, field-within t)
+-- a field that was read: what it says, and that its bytes are the text's
+pub record FieldTold (t : List ℕ) (n k : ℕ) : Type 0 where
+  pub read : fieldRead t ≡ Number n k
+  pub within : k ≤ length t
+
+pub field-told : {x : NumberRead} {t : List ℕ} {n k : ℕ} → x ≡ fieldRead t → x ≡ Number n k → FieldTold t n k
+field-told {t = t} e f = let r = sym e ∙ f in record { read = r; within = omega (arith, ap usedBy r, field-within t) }
 
 -- an amount's bytes, and its size
 abbrev takenBy : AmountRead → ℕ
@@ -146,11 +152,20 @@ amount-sound t = by (begins (32 ∷ 45 ∷ []) t) refl
         (omega (arith, p .0, decimal-used 2 t (head-within (32 ∷ 45 ∷ []) t e)), p .1)
     by false e = let p = plus-sound (fieldRead t) in (omega (arith, p .0, field-within t), p .1)
 
-pub amount-used : (t : List ℕ) (z : ℤ) (k : ℕ) → amountRead t ≡ Amount z k → k ≤ length t
-amount-used t z k e = omega (arith, ap takenBy e, amount-sound t .0)
+-- an amount that was read: the same, and that the machine's number is the amount
+pub record AmountTold (t : List ℕ) (z : ℤ) (k : ℕ) : Type 0 where
+  pub read : amountRead t ≡ Amount z k
+  pub within : k ≤ length t
+  pub is : toZ w64 (ofZ w64 z) ≡ z
 
-pub amount-fits : (t : List ℕ) (z : ℤ) (k : ℕ) → amountRead t ≡ Amount z k → SFits w64 z
-amount-fits t z k e = sfits-abs z (omega (arith, ap sizeOf e, amount-sound t .1))
+pub amount-told : {x : AmountRead} {t : List ℕ} {z : ℤ} {k : ℕ} → x ≡ amountRead t → x ≡ Amount z k → AmountTold t z k
+amount-told {t = t} {z = z} e f =
+    let r = sym e ∙ f in
+    record {
+      read = r;
+      within = omega (arith, ap takenBy r, amount-sound t .0);
+      is = toZ-ofZ (sfits-abs z (omega (arith, ap sizeOf r, amount-sound t .1)));
+    }
 
 -- ---- lines
 
