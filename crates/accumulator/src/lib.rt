@@ -5,7 +5,7 @@ ghost use lib.Dec.{ltb};
 ghost use lib.IntN.{pos, natAbs};
 ghost use lib.ListN.{getD};
 ghost use Rattle.numbers.specs.Table.{tabulate};
-ghost use Rattle.model.specs.Limits.{priceLimit, positionLimit, contractsLimit, runningLimit};
+ghost use Rattle.model.specs.Limits.{priceLimit, positionLimit, contractsLimit, runningLimit, pointCount};
 ghost use Rattle.accumulator.specs.Added.{changeAmount, added};
 
 // A position: net × multiplier, today's price, and the price at each point.
@@ -55,7 +55,7 @@ impl Points {
 
     // Ten zeros.
     pub fn new() -> Self
-        ensures { λ r. ⌜ r .at ≡ tabulate 10 (λ k. pos 0) ⌝ }
+        ensures { λ r. ⌜ r .at ≡ tabulate pointCount (λ k. pos 0) ⌝ }
     {
         Points {
             at: [0i64; Points::COUNT],
@@ -64,8 +64,8 @@ impl Points {
 
     // The ten amounts with what the position adds at each point.
     pub fn add(self, position: Position) -> Self
-        requires { ⌜ (natAbs (position .contracts) ≤ contractsLimit) × (position .base ≤ priceLimit) × ((k : ℕ) → k < 10 → getD (position .prices) k 0 ≤ priceLimit) ⌝ }
-        requires { ⌜ ((k : ℕ) → k < 10 → natAbs (getD (self .at) k (pos 0)) ≤ runningLimit) ⌝ }
+        requires { ⌜ (natAbs (position .contracts) ≤ contractsLimit) × (position .base ≤ priceLimit) × ((k : ℕ) → k < pointCount → getD (position .prices) k 0 ≤ priceLimit) ⌝ }
+        requires { ⌜ ((k : ℕ) → k < pointCount → natAbs (getD (self .at) k (pos 0)) ≤ runningLimit) ⌝ }
         ensures { λ r. ⌜ r .at ≡ added (self .at) (position .contracts) (position .base) (position .prices) ⌝ }
     {
         let mut next = self;

@@ -1,6 +1,8 @@
 // The checks of a batch: rows 20 to 26, each over all records before the next.
 ghost use mathlib.Core.Path.{_≡_};
-ghost use Rattle.model.specs.BatchChecks.{row20, row21, batchCheck};
+ghost use Rattle.model.specs.BatchChecks.{row20, row21, batchForm, batchCheck};
+use batch::MOST_RECORDS;
+use batch::RECORD_WORDS;
 use batch::batch_header;
 use batch::record_count;
 use model::BatchHeaderFault;
@@ -15,19 +17,19 @@ use words::kind;
 fn bad_header(batch: &[u32]) -> bool
     ensures { λ r. ⌜ r ≡ row20 (now (batch .entry)) ⌝ }
 {
-    (batch.len() == 0) | (kind(batch_header(batch)) != 1) | (256 < record_count(batch))
+    (batch.len() == 0) | (kind(batch_header(batch)) != 1) | (MOST_RECORDS < record_count(batch))
 }
 
-// Row 21: length isn't 1 + 6P.
+// Row 21: the length is not that of so many records.
 fn bad_length(batch: &[u32]) -> bool
     ensures { λ r. ⌜ r ≡ row21 (now (batch .entry)) ⌝ }
 {
-    batch.len() != 1 + 6 * record_count(batch)
+    batch.len() != 1 + RECORD_WORDS * record_count(batch)
 }
 
-// The first check that refuses the batch, for any words of it and of the day file.
-pub fn check_batch(day: &[u32], batch: &[u32]) -> Verdict
-    ensures { λ r. ⌜ r ≡ batchCheck (now (day .entry)) (now (batch .entry)) ⌝ }
+// Rows 20 to 22, which need no day file.
+fn check_form(batch: &[u32]) -> Verdict
+    ensures { λ r. ⌜ r ≡ batchForm (now (batch .entry)) ⌝ }
 {
     if bad_header(batch) {
         return Verdict::Failed(Check::BatchHeader(BatchHeaderFault::BadBatchHeader, 0));
@@ -38,6 +40,16 @@ pub fn check_batch(day: &[u32], batch: &[u32]) -> Verdict
     let count = record_count(batch);
     if let Found::At(r) = batch_words::first_bad_record(batch, count) {
         return Verdict::Failed(Check::BatchWords(BatchWordsFault::BadBatchWord, r));
+    }
+    Verdict::Passed
+}
+
+// The first check that refuses the batch, for any words of it and of the day file.
+pub fn check_batch(day: &[u32], batch: &[u32]) -> Verdict
+    ensures { λ r. ⌜ r ≡ batchCheck (now (day .entry)) (now (batch .entry)) ⌝ }
+{
+    if let Verdict::Failed(k) = check_form(batch) {
+        return Verdict::Failed(k);
     }
     batch_positions::check_positions(day, batch)
 }

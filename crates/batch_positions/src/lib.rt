@@ -4,9 +4,8 @@ ghost use Prim.Native.Nat.{_+_, _*_, _≤_};
 ghost use lib.ListN.{length};
 ghost use Rattle.numbers.specs.Scan.{firstBad};
 ghost use Rattle.model.specs.DayFile.{seriesType};
-ghost use Rattle.model.specs.Batch.{recordCount, place as placeOf};
-ghost use Rattle.model.specs.BatchChecks.{row23, row24, row25, row26};
-ghost use Rattle.batch_positions.specs.Stage.{positionCheck};
+ghost use Rattle.model.specs.Batch.{recordCount, place as placeOf, batchWords};
+ghost use Rattle.model.specs.BatchChecks.{row23, row24, row25, row26, positionCheck};
 use batch::dvp_size;
 use batch::exercised;
 use batch::fail;
@@ -23,7 +22,7 @@ use numbers::Found;
 
 // The type of the series of record r.
 fn type_of(day: &[u32], batch: &[u32], r: usize) -> u32
-    requires { ⌜ 7 + 6 * r ≤ length (now batch) ⌝ }
+    requires { ⌜ batchWords (r + 1) ≤ length (now batch) ⌝ }
     ensures { λ x. ⌜ x ≡ seriesType (now (day .entry)) (placeOf (now (batch .entry)) r) ⌝ }
 {
     series_type_at(day, place(batch, r))
@@ -31,14 +30,14 @@ fn type_of(day: &[u32], batch: &[u32], r: usize) -> u32
 
 // Row 23 of record r: its series place is not below S.
 fn series_absent(day: &[u32], batch: &[u32], r: usize) -> bool
-    requires { ⌜ 7 + 6 * r ≤ length (now batch) ⌝ }
+    requires { ⌜ batchWords (r + 1) ≤ length (now batch) ⌝ }
     ensures { λ x. ⌜ x ≡ row23 (now (day .entry)) (now (batch .entry)) r ⌝ }
 {
     series_count(day) <= place(batch, r)
 }
 
 fn first_series_absent(day: &[u32], batch: &[u32], count: usize) -> Found
-    requires { ⌜ 1 + 6 * count ≤ length (now batch) ⌝ }
+    requires { ⌜ batchWords count ≤ length (now batch) ⌝ }
     ensures { λ x. ⌜ x ≡ firstBad (row23 (now (day .entry)) (now (batch .entry))) count ⌝ }
 {
     let mut r = 0;
@@ -53,14 +52,14 @@ fn first_series_absent(day: &[u32], batch: &[u32], count: usize) -> Found
 
 // Row 24 of record r: bit 8 on a non-option.
 fn exercised_non_option(day: &[u32], batch: &[u32], r: usize) -> bool
-    requires { ⌜ 7 + 6 * r ≤ length (now batch) ⌝ }
+    requires { ⌜ batchWords (r + 1) ≤ length (now batch) ⌝ }
     ensures { λ x. ⌜ x ≡ row24 (now (day .entry)) (now (batch .entry)) r ⌝ }
 {
     (exercised(batch, r) == 1) & !is_option(type_of(day, batch, r))
 }
 
 fn first_exercised_non_option(day: &[u32], batch: &[u32], count: usize) -> Found
-    requires { ⌜ 1 + 6 * count ≤ length (now batch) ⌝ }
+    requires { ⌜ batchWords count ≤ length (now batch) ⌝ }
     ensures { λ x. ⌜ x ≡ firstBad (row24 (now (day .entry)) (now (batch .entry))) count ⌝ }
 {
     let mut r = 0;
@@ -75,14 +74,14 @@ fn first_exercised_non_option(day: &[u32], batch: &[u32], count: usize) -> Found
 
 // Row 25 of record r: bit 9 on a non-security.
 fn fail_non_security(day: &[u32], batch: &[u32], r: usize) -> bool
-    requires { ⌜ 7 + 6 * r ≤ length (now batch) ⌝ }
+    requires { ⌜ batchWords (r + 1) ≤ length (now batch) ⌝ }
     ensures { λ x. ⌜ x ≡ row25 (now (day .entry)) (now (batch .entry)) r ⌝ }
 {
     (fail(batch, r) == 1) & !is_security(type_of(day, batch, r))
 }
 
 fn first_fail_non_security(day: &[u32], batch: &[u32], count: usize) -> Found
-    requires { ⌜ 1 + 6 * count ≤ length (now batch) ⌝ }
+    requires { ⌜ batchWords count ≤ length (now batch) ⌝ }
     ensures { λ x. ⌜ x ≡ firstBad (row25 (now (day .entry)) (now (batch .entry))) count ⌝ }
 {
     let mut r = 0;
@@ -97,14 +96,14 @@ fn first_fail_non_security(day: &[u32], batch: &[u32], count: usize) -> Found
 
 // Row 26 of record r: DVP not 0 on a non-security.
 fn dvp_non_security(day: &[u32], batch: &[u32], r: usize) -> bool
-    requires { ⌜ 7 + 6 * r ≤ length (now batch) ⌝ }
+    requires { ⌜ batchWords (r + 1) ≤ length (now batch) ⌝ }
     ensures { λ x. ⌜ x ≡ row26 (now (day .entry)) (now (batch .entry)) r ⌝ }
 {
     (0 < dvp_size(batch, r)) & !is_security(type_of(day, batch, r))
 }
 
 fn first_dvp_non_security(day: &[u32], batch: &[u32], count: usize) -> Found
-    requires { ⌜ 1 + 6 * count ≤ length (now batch) ⌝ }
+    requires { ⌜ batchWords count ≤ length (now batch) ⌝ }
     ensures { λ x. ⌜ x ≡ firstBad (row26 (now (day .entry)) (now (batch .entry))) count ⌝ }
 {
     let mut r = 0;
@@ -118,7 +117,7 @@ fn first_dvp_non_security(day: &[u32], batch: &[u32], count: usize) -> Found
 }
 
 pub fn check_positions(day: &[u32], batch: &[u32]) -> Verdict
-    requires { ⌜ length (now batch) ≡ 1 + 6 * recordCount (now batch) ⌝ }
+    requires { ⌜ length (now batch) ≡ batchWords (recordCount (now batch)) ⌝ }
     ensures { λ x. ⌜ x ≡ positionCheck (now (day .entry)) (now (batch .entry)) ⌝ }
 {
     let count = record_count(batch);

@@ -7,7 +7,7 @@ use lib.IntN.{ℤ, natAbs}
 use Rattle.numbers.specs.Budget.{sumN-at}
 use Rattle.model.specs.Limits.{contractsLimit}
 use Rattle.model.specs.DayFile.{seriesCount, multiplier}
-use Rattle.model.specs.Netting.{position}
+use Rattle.model.specs.Netting.{position, positionCount}
 use Rattle.model.proofs.Limits.{multiplier-least}
 use Rattle.classes.specs.Tables.{entry, Given}
 
@@ -18,7 +18,7 @@ module _ (d : List ℕ) (nets : List ℤ) (w : Given d nets) (k x s : ℕ) (hk :
       omega (
         arith,
         w .budget .netLimit k x s hs hx hk,
-        sumN-at 1024 (w .budget .records) (position k x s) (omega (arith, w .day .series)),
+        sumN-at positionCount (w .budget .records) (position k x s) (omega (arith, w .day .series)),
         w .budget .few,
       )
 

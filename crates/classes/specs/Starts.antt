@@ -18,13 +18,18 @@ use Rattle.model.proofs.Accepted.{DayRows}
 use Rattle.model.proofs.Together.{class-below}
 use Rattle.classes.specs.Range.{startOf, cut, Range, range}
 use Rattle.classes.specs.Tables.{Day}
+use Rattle.model.specs.Limits.{mostClasses}
 
 -- series s is of class c or a later one
 abbrev pub reached : List ℕ → ℕ → ℕ → Bool
 reached d c s = leb c (seriesClass d s)
 
+-- a start for each class that there may be, and one more
+abbrev pub starts : ℕ
+starts = mostClasses + 1
+
 abbrev pub startTable : List ℕ → List ℕ
-startTable d = tabulate 65 (startOf d)
+startTable d = tabulate starts (startOf d)
 
 module _ (d : List ℕ) (c s : ℕ) (h : firstBad (reached d c) s ≡ Nothing) where
   pub start-hit : (r : Bool) → r ≡ reached d c s → r ≡ true → s < seriesCount d → s ≡ startOf d c
@@ -46,8 +51,8 @@ module _ (d : List ℕ) (r : DayRows d) where
       ap (λ (f : Found). placeOr f (seriesCount d))
       (first-none (reached d c) (seriesCount d) (λ s l. lt-leb c (seriesClass d s) (omega (arith, class-below d r s l))))
 
-  pub starts-all : (c : ℕ) → classCount d ≤ c → filled 65 (startOf d) (λ i. seriesCount d) c ≡ startTable d
-  starts-all c h = tabulate-ext 65 (λ i. cond (ltb i c) (startOf d i) (seriesCount d)) (startOf d) (λ i p. by i (decLt i c))
+  pub starts-all : (c : ℕ) → classCount d ≤ c → filled starts (startOf d) (λ i. seriesCount d) c ≡ startTable d
+  starts-all c h = tabulate-ext starts (λ i. cond (ltb i c) (startOf d i) (seriesCount d)) (startOf d) (λ i p. by i (decLt i c))
     where
       by : (i : ℕ) → Dec (i < c) → cond (ltb i c) (startOf d i) (seriesCount d) ≡ startOf d i
       by i (yes l) = rw (lt-ltb i c l)
@@ -56,5 +61,5 @@ module _ (d : List ℕ) (r : DayRows d) where
 -- the range of a class, by the table
 pub table-range : (d t : List ℕ) (c : ℕ) → Day d → t ≡ startTable d → c < classCount d → Range d c (getD t c 0) (getD t (c + 1) 0)
 table-range d t c w e h =
-    rw (e, getD-tabulate 65 (startOf d) c 0 (omega (arith, w .classes)), getD-tabulate 65 (startOf d) (c + 1) 0 (omega (arith, w .classes)))
+    rw (e, getD-tabulate starts (startOf d) c 0 (omega (arith, w .classes)), getD-tabulate starts (startOf d) (c + 1) 0 (omega (arith, w .classes)))
     (range d (w .rows) c h)

@@ -6,18 +6,19 @@ use native.Mathlib.Omega.{arith}
 use lib.IntN.{ℤ}
 use lib.ListN.{length}
 pub use Rattle.numbers.specs.Table.{entry}
-use Rattle.model.specs.DayFile.{classCount, seriesCount}
+use Rattle.model.specs.DayFile.{classCount, seriesCount, classAt, dayWords, seriesAt}
 use Rattle.model.proofs.Accepted.{DayRows}
 use Rattle.model.proofs.Limits.{day-length}
 use Rattle.model.proofs.Nets.{few-series, few-classes}
 use Rattle.model.proofs.Records.{Budget}
+use Rattle.model.specs.Limits.{mostClasses, mostSeries}
 
 -- an accepted day file, and its counts
 pub record Day (d : List ℕ) : Type 0 where
   pub rows : DayRows d
-  pub whole : length d ≡ 1 + 20 * classCount d + 14 * seriesCount d
-  pub classes : classCount d ≤ 64
-  pub series : seriesCount d ≤ 256
+  pub whole : length d ≡ dayWords (classCount d) (seriesCount d)
+  pub classes : classCount d ≤ mostClasses
+  pub series : seriesCount d ≤ mostSeries
 
 -- with a table of nets
 pub record Given (d : List ℕ) (nets : List ℤ) : Type 0 where
@@ -26,8 +27,12 @@ pub record Given (d : List ℕ) (nets : List ℤ) : Type 0 where
   pub budget : Budget d (entry nets) dvp
 
 -- the record of a class is inside
-pub class-inside : {d : List ℕ} → Day d → {c : ℕ} → c < classCount d → 21 + 20 * c ≤ length d
+pub class-inside : {d : List ℕ} → Day d → {c : ℕ} → c < classCount d → classAt (c + 1) ≤ length d
 class-inside w h = omega (arith, w .whole)
+
+-- and of a series
+pub series-inside : {d : List ℕ} → Day d → {s : ℕ} → s < seriesCount d → seriesAt d (s + 1) ≤ length d
+series-inside w h = omega (arith, w .whole)
 
 -- what accepted files give
 pub accepted-day : (d : List ℕ) → DayRows d → Day d

@@ -8,10 +8,14 @@ ghost use Rattle.model.proofs.Accepted.{DayRows};
 ghost use Rattle.classes.specs.Tables.{Day};
 ghost use Rattle.classes.specs.Range.{startOf};
 ghost use Rattle.classes.specs.Starts.{reached, startTable};
+use day_file::MOST_CLASSES;
 use day_file::class_count;
 use day_file::class_number;
 use day_file::series_class_number;
 use day_file::series_count;
+
+// A start for each class that there may be, and one more: where the last one's series end.
+pub const STARTS: usize = MOST_CLASSES + 1;
 
 // Series s is of class c or a later one.
 fn reaches(day: &[u32], c: usize, s: usize) -> bool
@@ -41,12 +45,12 @@ fn start(day: &[u32], c: usize, from: usize) -> usize
 }
 
 // The starts of all classes, and the end of the series for those that are not there.
-pub fn starts(day: &[u32]) -> [usize; 65]
+pub fn starts(day: &[u32]) -> [usize; STARTS]
     requires { ⌜ DayRows (now day) ⌝ }
     ensures { λ r. ⌜ r ≡ startTable (now (day .entry)) ⌝ }
 {
     let classes = class_count(day);
-    let mut table = [series_count(day); 65];
+    let mut table = [series_count(day); STARTS];
     let mut s: usize = 0;
     let mut c: usize = 0;
     while c < classes {

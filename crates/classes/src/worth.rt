@@ -3,13 +3,13 @@ ghost use mathlib.Core.Path.{_≡_};
 ghost use Prim.Native.Nat.{_+_, _*_, _≤_, _<_, _^_};
 ghost use lib.IntN.{pos, natAbs, _*ℤ_};
 ghost use lib.ListN.{length};
-ghost use Rattle.model.specs.DayFile.{classCount, multiplier};
+ghost use Rattle.model.specs.DayFile.{classCount, multiplier, seriesAt};
 ghost use Rattle.model.specs.Steps.Classes.{worth as worthOf, signedByType};
 ghost use Rattle.model.specs.Limits.{contractsLimit, priceLimit};
 
 // Net × multiplier.
 pub fn contracts(day: &[u32], s: usize, net: i64) -> i64
-    requires { ⌜ 15 + 20 * classCount (now day) + 14 * s ≤ length (now day) ⌝ }
+    requires { ⌜ seriesAt (now day) (s + 1) ≤ length (now day) ⌝ }
     requires { ⌜ natAbs net * multiplier (now day) s ≤ contractsLimit ⌝ }
     ensures { λ r. ⌜ r ≡ net *ℤ pos (multiplier (now (day .entry)) s) ⌝ }
 {
@@ -17,7 +17,7 @@ pub fn contracts(day: &[u32], s: usize, net: i64) -> i64
 }
 
 pub fn worth(day: &[u32], s: usize, net: i64, price: i64) -> i64
-    requires { ⌜ 15 + 20 * classCount (now day) + 14 * s ≤ length (now day) ⌝ }
+    requires { ⌜ seriesAt (now day) (s + 1) ≤ length (now day) ⌝ }
     requires { ⌜ (natAbs net * multiplier (now day) s ≤ contractsLimit) × (natAbs price ≤ priceLimit) ⌝ }
     ensures { λ r. ⌜ r ≡ worthOf (now (day .entry)) s net price ⌝ }
 {

@@ -3,9 +3,8 @@ ghost use mathlib.Core.Path.{_≡_};
 ghost use Prim.Native.Nat.{_+_, _*_, _≤_, _<_};
 ghost use lib.ListN.{length};
 ghost use Rattle.numbers.specs.Scan.{firstBad};
-ghost use Rattle.model.specs.DayFile.{classCount, seriesCount};
-ghost use Rattle.model.specs.DayChecks.{row13, row14};
-ghost use Rattle.day_classes.specs.Stage.{classCheck};
+ghost use Rattle.model.specs.DayFile.{classCount, seriesCount, classAt, dayWords};
+ghost use Rattle.model.specs.DayChecks.{row13, row14, classCheck};
 ghost use Rattle.day_classes.specs.Offsets.{conflict};
 use day_file::class_count;
 use day_file::class_number;
@@ -18,7 +17,7 @@ use numbers::Found;
 
 // Row 13 of class c: its number is not above the one before.
 fn out_of_order(day: &[u32], c: usize) -> bool
-    requires { ⌜ 21 + 20 * c ≤ length (now day) ⌝ }
+    requires { ⌜ classAt (c + 1) ≤ length (now day) ⌝ }
     ensures { λ r. ⌜ r ≡ row13 (now (day .entry)) c ⌝ }
 {
     if c == 0 {
@@ -28,7 +27,7 @@ fn out_of_order(day: &[u32], c: usize) -> bool
 }
 
 fn first_out_of_order(day: &[u32], count: usize) -> Found
-    requires { ⌜ 1 + 20 * count ≤ length (now day) ⌝ }
+    requires { ⌜ classAt count ≤ length (now day) ⌝ }
     ensures { λ r. ⌜ r ≡ firstBad (row13 (now (day .entry))) count ⌝ }
 {
     let mut c = 0;
@@ -51,7 +50,7 @@ fn conflicts(l: u32, o: u32) -> bool
 
 // Row 14, with a table of the offsets of the groups so far.
 fn first_other_offset(day: &[u32], count: usize) -> Found
-    requires { ⌜ 1 + 20 * count ≤ length (now day) ⌝ }
+    requires { ⌜ classAt count ≤ length (now day) ⌝ }
     ensures { λ r. ⌜ r ≡ firstBad (row14 (now (day .entry))) count ⌝ }
 {
     let mut last = [0u32; 32];
@@ -69,7 +68,7 @@ fn first_other_offset(day: &[u32], count: usize) -> Found
 }
 
 pub fn check_classes(day: &[u32]) -> Verdict
-    requires { ⌜ length (now day) ≡ 1 + 20 * classCount (now day) + 14 * seriesCount (now day) ⌝ }
+    requires { ⌜ length (now day) ≡ dayWords (classCount (now day)) (seriesCount (now day)) ⌝ }
     ensures { λ r. ⌜ r ≡ classCheck (now (day .entry)) ⌝ }
 {
     let count = class_count(day);

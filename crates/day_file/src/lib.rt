@@ -1,13 +1,31 @@
-// The fields of a day file: of its header, of class c and of series s. A class has 20 words, a series 14.
+// The fields of a day file: of its header, of class c and of series s.
 ghost use mathlib.Core.Path.{_≡_};
 ghost use Prim.Native.Nat.{_+_, _*_, _≤_, _<_};
 ghost use lib.ListN.{length};
-ghost use Rattle.model.specs.DayFile.{dayHeader, classCount, seriesCount, classWord, classNumber, spotRate, nonSpotRate, optionRate, futureRate, equityRate, warrantRate, rightsRate, seriesWord, seriesKey, seriesType, seriesClassNumber, isFuture, isCall, isPut, isOption, isSecurity};
+ghost use Rattle.model.specs.DayFile.{dayHeader, classCount, seriesCount, classWord, classNumber, spotRate, nonSpotRate, optionRate, futureRate, equityRate, warrantRate, rightsRate, seriesWord, seriesKey, seriesType, seriesClassNumber, isFuture, isCall, isPut, isOption, isSecurity, classAt, seriesAt, seriesWords, isEquity, isWarrant, isRights, isDerivative};
 ghost use Rattle.model.specs.DayFile.{group as groupOf, underlying as underlyingOf, offset as offsetOf, serial as serialOf, expiry as expiryOf, multiplier as multiplierOf, strike as strikeOf, closing as closingOf};
 use words::bits;
 use words::index;
 use words::payload;
 use words::word_at;
+
+// The words of a class.
+pub const CLASS_WORDS: usize = 20;
+
+// The words of a series.
+pub const SERIES_WORDS: usize = 14;
+
+// The most classes.
+pub const MOST_CLASSES: usize = 64;
+
+// The most series.
+pub const MOST_SERIES: usize = 256;
+
+// The product groups.
+pub const GROUPS: usize = 29;
+
+// An offset that leaves a credit whole.
+pub const WHOLE_OFFSET: u32 = 100;
 
 // The first word, 0 where there is none.
 pub fn day_header(day: &[u32]) -> u32
@@ -32,15 +50,15 @@ pub fn series_count(day: &[u32]) -> usize
 
 // Word i of class c.
 pub fn class_word(day: &[u32], c: usize, i: usize) -> u32
-    requires { ⌜ 1 + 20 * c + i < length (now day) ⌝ }
+    requires { ⌜ classAt c + i < length (now day) ⌝ }
     ensures { λ r. ⌜ r ≡ classWord (now (day .entry)) c i ⌝ }
 {
-    day[1 + 20 * c + i]
+    day[1 + CLASS_WORDS * c + i]
 }
 
 // Product group, bits 0 to 4 of the key.
 pub fn group(day: &[u32], c: usize) -> usize
-    requires { ⌜ 21 + 20 * c ≤ length (now day) ⌝ }
+    requires { ⌜ classAt (c + 1) ≤ length (now day) ⌝ }
     ensures { λ r. ⌜ r ≡ groupOf (now (day .entry)) c ⌝ }
 {
     index(bits(payload(class_word(day, c, 0)), 0, 5))
@@ -48,7 +66,7 @@ pub fn group(day: &[u32], c: usize) -> usize
 
 // Class number, bits 5 to 10 of the key.
 pub fn class_number(day: &[u32], c: usize) -> usize
-    requires { ⌜ 21 + 20 * c ≤ length (now day) ⌝ }
+    requires { ⌜ classAt (c + 1) ≤ length (now day) ⌝ }
     ensures { λ r. ⌜ r ≡ classNumber (now (day .entry)) c ⌝ }
 {
     index(bits(payload(class_word(day, c, 0)), 5, 6))
@@ -56,7 +74,7 @@ pub fn class_number(day: &[u32], c: usize) -> usize
 
 // Underlying price.
 pub fn underlying(day: &[u32], c: usize) -> u32
-    requires { ⌜ 21 + 20 * c ≤ length (now day) ⌝ }
+    requires { ⌜ classAt (c + 1) ≤ length (now day) ⌝ }
     ensures { λ r. ⌜ r ≡ underlyingOf (now (day .entry)) c ⌝ }
 {
     payload(class_word(day, c, 1))
@@ -64,7 +82,7 @@ pub fn underlying(day: &[u32], c: usize) -> u32
 
 // Spot spread rate.
 pub fn spot_rate(day: &[u32], c: usize) -> u32
-    requires { ⌜ 21 + 20 * c ≤ length (now day) ⌝ }
+    requires { ⌜ classAt (c + 1) ≤ length (now day) ⌝ }
     ensures { λ r. ⌜ r ≡ spotRate (now (day .entry)) c ⌝ }
 {
     payload(class_word(day, c, 2))
@@ -72,7 +90,7 @@ pub fn spot_rate(day: &[u32], c: usize) -> u32
 
 // Non-spot spread rate.
 pub fn non_spot_rate(day: &[u32], c: usize) -> u32
-    requires { ⌜ 21 + 20 * c ≤ length (now day) ⌝ }
+    requires { ⌜ classAt (c + 1) ≤ length (now day) ⌝ }
     ensures { λ r. ⌜ r ≡ nonSpotRate (now (day .entry)) c ⌝ }
 {
     payload(class_word(day, c, 3))
@@ -80,7 +98,7 @@ pub fn non_spot_rate(day: &[u32], c: usize) -> u32
 
 // Minimum rate for options.
 pub fn option_rate(day: &[u32], c: usize) -> u32
-    requires { ⌜ 21 + 20 * c ≤ length (now day) ⌝ }
+    requires { ⌜ classAt (c + 1) ≤ length (now day) ⌝ }
     ensures { λ r. ⌜ r ≡ optionRate (now (day .entry)) c ⌝ }
 {
     payload(class_word(day, c, 4))
@@ -88,7 +106,7 @@ pub fn option_rate(day: &[u32], c: usize) -> u32
 
 // Minimum rate for futures.
 pub fn future_rate(day: &[u32], c: usize) -> u32
-    requires { ⌜ 21 + 20 * c ≤ length (now day) ⌝ }
+    requires { ⌜ classAt (c + 1) ≤ length (now day) ⌝ }
     ensures { λ r. ⌜ r ≡ futureRate (now (day .entry)) c ⌝ }
 {
     payload(class_word(day, c, 5))
@@ -96,7 +114,7 @@ pub fn future_rate(day: &[u32], c: usize) -> u32
 
 // Minimum rate for equities.
 pub fn equity_rate(day: &[u32], c: usize) -> u32
-    requires { ⌜ 21 + 20 * c ≤ length (now day) ⌝ }
+    requires { ⌜ classAt (c + 1) ≤ length (now day) ⌝ }
     ensures { λ r. ⌜ r ≡ equityRate (now (day .entry)) c ⌝ }
 {
     payload(class_word(day, c, 6))
@@ -104,7 +122,7 @@ pub fn equity_rate(day: &[u32], c: usize) -> u32
 
 // Minimum rate for warrants.
 pub fn warrant_rate(day: &[u32], c: usize) -> u32
-    requires { ⌜ 21 + 20 * c ≤ length (now day) ⌝ }
+    requires { ⌜ classAt (c + 1) ≤ length (now day) ⌝ }
     ensures { λ r. ⌜ r ≡ warrantRate (now (day .entry)) c ⌝ }
 {
     payload(class_word(day, c, 7))
@@ -112,7 +130,7 @@ pub fn warrant_rate(day: &[u32], c: usize) -> u32
 
 // Minimum rate for rights.
 pub fn rights_rate(day: &[u32], c: usize) -> u32
-    requires { ⌜ 21 + 20 * c ≤ length (now day) ⌝ }
+    requires { ⌜ classAt (c + 1) ≤ length (now day) ⌝ }
     ensures { λ r. ⌜ r ≡ rightsRate (now (day .entry)) c ⌝ }
 {
     payload(class_word(day, c, 8))
@@ -120,7 +138,7 @@ pub fn rights_rate(day: &[u32], c: usize) -> u32
 
 // Group offset in percent.
 pub fn offset(day: &[u32], c: usize) -> u32
-    requires { ⌜ 21 + 20 * c ≤ length (now day) ⌝ }
+    requires { ⌜ classAt (c + 1) ≤ length (now day) ⌝ }
     ensures { λ r. ⌜ r ≡ offsetOf (now (day .entry)) c ⌝ }
 {
     payload(class_word(day, c, 9))
@@ -128,15 +146,15 @@ pub fn offset(day: &[u32], c: usize) -> u32
 
 // Word i of series s.
 pub fn series_word(day: &[u32], s: usize, i: usize) -> u32
-    requires { ⌜ 1 + 20 * classCount (now day) + 14 * s + i < length (now day) ⌝ }
+    requires { ⌜ seriesAt (now day) s + i < length (now day) ⌝ }
     ensures { λ r. ⌜ r ≡ seriesWord (now (day .entry)) s i ⌝ }
 {
-    day[1 + 20 * class_count(day) + 14 * s + i]
+    day[1 + CLASS_WORDS * class_count(day) + SERIES_WORDS * s + i]
 }
 
 // The key payload.
 pub fn series_key(day: &[u32], s: usize) -> u32
-    requires { ⌜ 15 + 20 * classCount (now day) + 14 * s ≤ length (now day) ⌝ }
+    requires { ⌜ seriesAt (now day) (s + 1) ≤ length (now day) ⌝ }
     ensures { λ r. ⌜ r ≡ seriesKey (now (day .entry)) s ⌝ }
 {
     payload(series_word(day, s, 0))
@@ -144,7 +162,7 @@ pub fn series_key(day: &[u32], s: usize) -> u32
 
 // Serial, bits 0 to 6 of the key.
 pub fn serial(day: &[u32], s: usize) -> u32
-    requires { ⌜ 15 + 20 * classCount (now day) + 14 * s ≤ length (now day) ⌝ }
+    requires { ⌜ seriesAt (now day) (s + 1) ≤ length (now day) ⌝ }
     ensures { λ r. ⌜ r ≡ serialOf (now (day .entry)) s ⌝ }
 {
     bits(series_key(day, s), 0, 7)
@@ -152,7 +170,7 @@ pub fn serial(day: &[u32], s: usize) -> u32
 
 // Expiry as months since January 2000, bits 7 to 18 of the key.
 pub fn expiry(day: &[u32], s: usize) -> u32
-    requires { ⌜ 15 + 20 * classCount (now day) + 14 * s ≤ length (now day) ⌝ }
+    requires { ⌜ seriesAt (now day) (s + 1) ≤ length (now day) ⌝ }
     ensures { λ r. ⌜ r ≡ expiryOf (now (day .entry)) s ⌝ }
 {
     bits(series_key(day, s), 7, 12)
@@ -160,7 +178,7 @@ pub fn expiry(day: &[u32], s: usize) -> u32
 
 // Type, bits 19 to 22 of the key.
 pub fn series_type(day: &[u32], s: usize) -> u32
-    requires { ⌜ 15 + 20 * classCount (now day) + 14 * s ≤ length (now day) ⌝ }
+    requires { ⌜ seriesAt (now day) (s + 1) ≤ length (now day) ⌝ }
     ensures { λ r. ⌜ r ≡ seriesType (now (day .entry)) s ⌝ }
 {
     bits(series_key(day, s), 19, 4)
@@ -168,7 +186,7 @@ pub fn series_type(day: &[u32], s: usize) -> u32
 
 // Class number, bits 23 to 28 of the key.
 pub fn series_class_number(day: &[u32], s: usize) -> usize
-    requires { ⌜ 15 + 20 * classCount (now day) + 14 * s ≤ length (now day) ⌝ }
+    requires { ⌜ seriesAt (now day) (s + 1) ≤ length (now day) ⌝ }
     ensures { λ r. ⌜ r ≡ seriesClassNumber (now (day .entry)) s ⌝ }
 {
     index(bits(series_key(day, s), 23, 6))
@@ -176,7 +194,7 @@ pub fn series_class_number(day: &[u32], s: usize) -> usize
 
 // Multiplier.
 pub fn multiplier(day: &[u32], s: usize) -> u32
-    requires { ⌜ 15 + 20 * classCount (now day) + 14 * s ≤ length (now day) ⌝ }
+    requires { ⌜ seriesAt (now day) (s + 1) ≤ length (now day) ⌝ }
     ensures { λ r. ⌜ r ≡ multiplierOf (now (day .entry)) s ⌝ }
 {
     payload(series_word(day, s, 1))
@@ -184,7 +202,7 @@ pub fn multiplier(day: &[u32], s: usize) -> u32
 
 // Strike.
 pub fn strike(day: &[u32], s: usize) -> u32
-    requires { ⌜ 15 + 20 * classCount (now day) + 14 * s ≤ length (now day) ⌝ }
+    requires { ⌜ seriesAt (now day) (s + 1) ≤ length (now day) ⌝ }
     ensures { λ r. ⌜ r ≡ strikeOf (now (day .entry)) s ⌝ }
 {
     payload(series_word(day, s, 2))
@@ -192,7 +210,7 @@ pub fn strike(day: &[u32], s: usize) -> u32
 
 // Closing price.
 pub fn closing(day: &[u32], s: usize) -> u32
-    requires { ⌜ 15 + 20 * classCount (now day) + 14 * s ≤ length (now day) ⌝ }
+    requires { ⌜ seriesAt (now day) (s + 1) ≤ length (now day) ⌝ }
     ensures { λ r. ⌜ r ≡ closingOf (now (day .entry)) s ⌝ }
 {
     payload(series_word(day, s, 3))
@@ -200,10 +218,13 @@ pub fn closing(day: &[u32], s: usize) -> u32
 
 // Word i of series s in words that may be too few, 0 past their end.
 fn series_word_at(day: &[u32], s: usize, i: usize) -> u32
-    requires { ⌜ (s < 4294967296) × (i < 14) ⌝ }
+    requires { ⌜ (s < 4294967296) × (i < seriesWords) ⌝ }
     ensures { λ r. ⌜ r ≡ seriesWord (now (day .entry)) s i ⌝ }
 {
-    word_at(day, 1 + 20 * class_count(day) + 14 * s + i)
+    word_at(
+        day,
+        1 + CLASS_WORDS * class_count(day) + SERIES_WORDS * s + i,
+    )
 }
 
 // Type of series s in words that may be too few.
@@ -242,9 +263,37 @@ pub fn is_option(t: u32) -> bool
     is_call(t) | is_put(t)
 }
 
-// Types 4 to 6.
+// Type 4.
+pub fn is_equity(t: u32) -> bool
+    ensures { λ r. ⌜ r ≡ isEquity t ⌝ }
+{
+    t == 4
+}
+
+// Type 5.
+pub fn is_warrant(t: u32) -> bool
+    ensures { λ r. ⌜ r ≡ isWarrant t ⌝ }
+{
+    t == 5
+}
+
+// Type 6.
+fn is_rights(t: u32) -> bool
+    ensures { λ r. ⌜ r ≡ isRights t ⌝ }
+{
+    t == 6
+}
+
+// An equity, a warrant or a rights issue.
 pub fn is_security(t: u32) -> bool
     ensures { λ r. ⌜ r ≡ isSecurity t ⌝ }
 {
-    (4 <= t) & (t <= 6)
+    is_equity(t) | is_warrant(t) | is_rights(t)
+}
+
+// A future or an option.
+pub fn is_derivative(t: u32) -> bool
+    ensures { λ r. ⌜ r ≡ isDerivative t ⌝ }
+{
+    is_future(t) | is_option(t)
 }

@@ -3,13 +3,13 @@ ghost use mathlib.Core.Path.{_≡_};
 ghost use Prim.Native.Nat.{_+_, _*_, _≤_, _<_};
 ghost use lib.ListN.{length};
 ghost use Rattle.numbers.specs.Scan.{firstBad};
-ghost use Rattle.model.specs.DayFile.{classCount, seriesCount};
-ghost use Rattle.model.specs.DayChecks.{row15, row16, row17};
-ghost use Rattle.day_series.specs.Stage.{seriesCheck};
+ghost use Rattle.model.specs.DayFile.{classCount, seriesCount, classAt, seriesAt, dayWords};
+ghost use Rattle.model.specs.DayChecks.{row15, row16, row17, seriesCheck};
 ghost use Rattle.day_series.specs.Presence.{presence};
 use day_file::class_count;
 use day_file::class_number;
 use day_file::expiry;
+use day_file::is_derivative;
 use day_file::is_future;
 use day_file::is_security;
 use day_file::serial;
@@ -23,13 +23,16 @@ use model::SeriesFault;
 use model::Verdict;
 use numbers::Found;
 
+// Class numbers have six bits.
+const NUMBERS: usize = 64;
+
 // Which class numbers there are.
-fn present_numbers(day: &[u32]) -> [bool; 64]
-    requires { ⌜ 1 + 20 * classCount (now day) ≤ length (now day) ⌝ }
+fn present_numbers(day: &[u32]) -> [bool; NUMBERS]
+    requires { ⌜ classAt (classCount (now day)) ≤ length (now day) ⌝ }
     ensures { λ r. ⌜ r ≡ presence (now (day .entry)) (classCount (now (day .entry))) ⌝ }
 {
     let count = class_count(day);
-    let mut present = [false; 64];
+    let mut present = [false; NUMBERS];
     let mut c = 0;
     while c < count {
         let n = class_number(day, c);
@@ -40,8 +43,8 @@ fn present_numbers(day: &[u32]) -> [bool; 64]
 }
 
 // Row 15 of series s: its class number is absent.
-fn class_absent(day: &[u32], present: &[bool; 64], s: usize) -> bool
-    requires { ⌜ 15 + 20 * classCount (now day) + 14 * s ≤ length (now day) ⌝ }
+fn class_absent(day: &[u32], present: &[bool; NUMBERS], s: usize) -> bool
+    requires { ⌜ seriesAt (now day) (s + 1) ≤ length (now day) ⌝ }
     requires { ⌜ now present ≡ presence (now day) (classCount (now day)) ⌝ }
     ensures { λ r. ⌜ r ≡ row15 (now (day .entry)) s ⌝ }
 {
@@ -50,7 +53,7 @@ fn class_absent(day: &[u32], present: &[bool; 64], s: usize) -> bool
 }
 
 fn first_class_absent(day: &[u32], count: usize) -> Found
-    requires { ⌜ 1 + 20 * classCount (now day) + 14 * count ≤ length (now day) ⌝ }
+    requires { ⌜ seriesAt (now day) count ≤ length (now day) ⌝ }
     ensures { λ r. ⌜ r ≡ firstBad (row15 (now (day .entry))) count ⌝ }
 {
     let present = present_numbers(day);
@@ -66,7 +69,7 @@ fn first_class_absent(day: &[u32], count: usize) -> Found
 
 // Row 16 of series s: its key payload, then strike, is not above the one before.
 fn out_of_order(day: &[u32], s: usize) -> bool
-    requires { ⌜ 15 + 20 * classCount (now day) + 14 * s ≤ length (now day) ⌝ }
+    requires { ⌜ seriesAt (now day) (s + 1) ≤ length (now day) ⌝ }
     ensures { λ r. ⌜ r ≡ row16 (now (day .entry)) s ⌝ }
 {
     if s == 0 {
@@ -78,7 +81,7 @@ fn out_of_order(day: &[u32], s: usize) -> bool
 }
 
 fn first_out_of_order(day: &[u32], count: usize) -> Found
-    requires { ⌜ 1 + 20 * classCount (now day) + 14 * count ≤ length (now day) ⌝ }
+    requires { ⌜ seriesAt (now day) count ≤ length (now day) ⌝ }
     ensures { λ r. ⌜ r ≡ firstBad (row16 (now (day .entry))) count ⌝ }
 {
     let mut s = 0;
@@ -91,21 +94,23 @@ fn first_out_of_order(day: &[u32], count: usize) -> Found
     Found::Nothing
 }
 
-// Row 17 of series s: type not 1–6; serial not 0 on types 1–3; strike not 0 on a future; strike or expiry not 0 on a security.
+// Row 17 of series s: no type of 1–6; serial not 0 on types 1–3; strike not 0 on a future; strike or expiry not 0 on a security.
 fn bad_type(day: &[u32], s: usize) -> bool
-    requires { ⌜ 15 + 20 * classCount (now day) + 14 * s ≤ length (now day) ⌝ }
+    requires { ⌜ seriesAt (now day) (s + 1) ≤ length (now day) ⌝ }
     ensures { λ r. ⌜ r ≡ row17 (now (day .entry)) s ⌝ }
 {
     let t = series_type(day, s);
     let k = strike(day, s);
-    !((1 <= t) & (t <= 6))
-        | ((t <= 3) & (0 < serial(day, s)))
+    let derivative = is_derivative(t);
+    let security = is_security(t);
+    !(derivative | security)
+        | (derivative & (0 < serial(day, s)))
         | (is_future(t) & (0 < k))
-        | (is_security(t) & ((0 < k) | (0 < expiry(day, s))))
+        | (security & ((0 < k) | (0 < expiry(day, s))))
 }
 
 fn first_bad_type(day: &[u32], count: usize) -> Found
-    requires { ⌜ 1 + 20 * classCount (now day) + 14 * count ≤ length (now day) ⌝ }
+    requires { ⌜ seriesAt (now day) count ≤ length (now day) ⌝ }
     ensures { λ r. ⌜ r ≡ firstBad (row17 (now (day .entry))) count ⌝ }
 {
     let mut s = 0;
@@ -119,7 +124,7 @@ fn first_bad_type(day: &[u32], count: usize) -> Found
 }
 
 pub fn check_series(day: &[u32]) -> Verdict
-    requires { ⌜ length (now day) ≡ 1 + 20 * classCount (now day) + 14 * seriesCount (now day) ⌝ }
+    requires { ⌜ length (now day) ≡ dayWords (classCount (now day)) (seriesCount (now day)) ⌝ }
     ensures { λ r. ⌜ r ≡ seriesCheck (now (day .entry)) ⌝ }
 {
     let count = series_count(day);

@@ -8,13 +8,14 @@ use Rattle.model.specs.Bytes.{wordsOf, byteAnswer, bytesAfter}
 use Rattle.model.specs.Calls.{Accepted, answer, memoryAfter, needed}
 use Rattle.model.specs.Locality.{Edit, LocalChange, Reordered, ByteAccepted, ByteReordered}
 use Rattle.model.proofs.Demand.{demand3}
+use Rattle.model.specs.Limits.{groupCount}
 
 -- d a day file, b₁ and b₂ two batches, m₁ and m₂ the memories before the calls, w₁ and w₂ after them
 
 -- an edit in group g of book k changes that line alone, and the totals by its margin's change
 abbrev pub LocalEdit : List ℕ → List ℕ → List ℕ → List ℕ → List ℕ → List ℕ → List ℕ → Type 0
 LocalEdit d b₁ b₂ m₁ m₂ w₁ w₂ =
-    (g k : ℕ) → g < 29 → k < 2
+    (g k : ℕ) → g < groupCount → k < 2
     → Accepted d b₁ → Accepted d b₂ → Edit d g k b₁ b₂
     → needed d b₁ ≤ length m₁ → needed d b₂ ≤ length m₂
     → LocalChange w₁ w₂ g k
@@ -22,7 +23,7 @@ LocalEdit d b₁ b₂ m₁ m₂ w₁ w₂ =
 -- the same of bytes, read as words
 abbrev pub LocalByteEdit : List ℕ → List ℕ → List ℕ → List ℕ → List ℕ → List ℕ → List ℕ → Type 0
 LocalByteEdit d b₁ b₂ m₁ m₂ w₁ w₂ =
-    (g k : ℕ) → g < 29 → k < 2
+    (g k : ℕ) → g < groupCount → k < 2
     → ByteAccepted d b₁ → ByteAccepted d b₂ → Edit (wordsOf d) g k (wordsOf b₁) (wordsOf b₂)
     → needed (wordsOf d) (wordsOf b₁) ≤ length m₁ / 4 → needed (wordsOf d) (wordsOf b₂) ≤ length m₂ / 4
     → LocalChange (wordsOf w₁) (wordsOf w₂) g k

@@ -26,8 +26,8 @@ pub fn byte_edits(day: &[u8], batch: &[u8], edited: &[u8], memory: &mut [u8], ot
     ensures { λ _. ⌜ LocalByteEdit (now (day .entry)) (now (batch .entry)) (now (edited .entry)) (now (memory .entry)) (now (other .entry)) (now (memory .exit)) (now (other .exit)) ⌝ }
     ensures { λ _. ⌜ (now (memory .exit) ≡ bytesAfter (now (day .entry)) (now (batch .entry)) (now (memory .entry))) × (now (other .exit) ≡ bytesAfter (now (day .entry)) (now (edited .entry)) (now (other .entry))) ⌝ }
 {
-    mars::byte_report(day, batch, memory);
-    mars::byte_report(day, edited, other);
+    byte_report::byte_report(day, batch, memory);
+    byte_report::byte_report(day, edited, other);
 }
 
 // The answers of two calls.
@@ -68,8 +68,8 @@ pub fn byte_orders(
     ensures { λ _. ⌜ (now (memory .exit) ≡ bytesAfter (now (day .entry)) (now (batch .entry)) (now (memory .entry))) × (now (other .exit) ≡ bytesAfter (now (day .entry)) (now (reordered .entry)) (now (other .entry))) ⌝ }
     ensures { λ r. ⌜ (r .batch ≡ byteAnswer (now (day .entry)) (now (batch .entry)) (length (now (memory .entry)))) × (r .reordered ≡ byteAnswer (now (day .entry)) (now (reordered .entry)) (length (now (other .entry)))) ⌝ }
 {
-    let answer = mars::byte_report(day, batch, memory);
-    let reordered_answer = mars::byte_report(day, reordered, other);
+    let answer = byte_report::byte_report(day, batch, memory);
+    let reordered_answer = byte_report::byte_report(day, reordered, other);
     Answers {
         batch: answer,
         reordered: reordered_answer,

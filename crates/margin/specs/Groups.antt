@@ -16,7 +16,7 @@ use Rattle.model.specs.Steps.Premium.{premium}
 use Rattle.model.specs.Steps.Minimum.{minimum}
 use Rattle.model.specs.Steps.Points.{classPoint}
 use Rattle.model.specs.Steps.Additional.{afterOffset}
-use Rattle.model.specs.Limits.{worthLimit, spreadLimit, mtmLimit}
+use Rattle.model.specs.Limits.{worthLimit, spreadLimit, mtmLimit, pointCount, groupCount}
 use Rattle.model.proofs.Accepted.{DayRows}
 use Rattle.model.proofs.Records.{Budget}
 use Rattle.model.proofs.Bounds.{class-spread, class-mtm, class-premium, class-minimum, class-offset, spread-over, mtm-over, premium-over, minimum-over, point-over}
@@ -43,27 +43,27 @@ module _ (d : List ℕ) (g : ℕ) (f : ℕ → ℤ) where
 
 -- the same of ten amounts
 abbrev pub pointsOver : List ℕ → (ℕ → ℤ) → ℕ → ℕ → ℕ → List ℤ
-pointsOver d n k g m = tabulate 10 (λ j. over d g m (offsetPoint d n k j))
+pointsOver d n k g m = tabulate pointCount (λ j. over d g m (offsetPoint d n k j))
 
 module _ (d : List ℕ) (n : ℕ → ℤ) (k g : ℕ) where
-  pub points-none : tabulate 10 (λ j. pos 0) ≡ pointsOver d n k g 0
-  points-none = tabulate-ext 10 (λ j. pos 0) _ (λ j h. over-none d g (offsetPoint d n k j))
+  pub points-none : tabulate pointCount (λ j. pos 0) ≡ pointsOver d n k g 0
+  points-none = tabulate-ext pointCount (λ j. pos 0) _ (λ j h. over-none d g (offsetPoint d n k j))
 
   pub points-yes : (c : ℕ) → group d c ≡ g
-      → tabulate 10 (λ j. getD (pointsOver d n k g c) j (pos 0) +ℤ getD (tabulate 10 (λ j. offsetPoint d n k j c)) j (pos 0)) ≡ pointsOver d n k g (c + 1)
+      → tabulate pointCount (λ j. getD (pointsOver d n k g c) j (pos 0) +ℤ getD (tabulate pointCount (λ j. offsetPoint d n k j c)) j (pos 0)) ≡ pointsOver d n k g (c + 1)
   points-yes c e =
-      tabulate-ext 10 _ _
+      tabulate-ext pointCount _ _
       (λ j h.
-      (λ i. getD-tabulate 10 (λ j. over d g c (offsetPoint d n k j)) j (pos 0) h i +ℤ getD-tabulate 10 (λ j. offsetPoint d n k j c) j (pos 0) h i)
+      (λ i. getD-tabulate pointCount (λ j. over d g c (offsetPoint d n k j)) j (pos 0) h i +ℤ getD-tabulate pointCount (λ j. offsetPoint d n k j c) j (pos 0) h i)
       ∙ over-yes d g (offsetPoint d n k j) c e)
 
   pub points-no : (c : ℕ) → (group d c ≡ g → ⊥) → pointsOver d n k g c ≡ pointsOver d n k g (c + 1)
-  points-no c e = tabulate-ext 10 _ _ (λ j h. over-no d g (offsetPoint d n k j) c e)
+  points-no c e = tabulate-ext pointCount _ _ (λ j h. over-no d g (offsetPoint d n k j) c e)
 
 -- ---- the amounts of a group together: spread, MTM, premium, minimum, and the ten points
 
 abbrev pub noAmounts : Amounts
-noAmounts = record { spread = pos 0; mtm = pos 0; premium = pos 0; minimum = pos 0; points = record { at = tabulate 10 (λ j. pos 0) } }
+noAmounts = record { spread = pos 0; mtm = pos 0; premium = pos 0; minimum = pos 0; points = record { at = tabulate pointCount (λ j. pos 0) } }
 
 -- two sets of amounts added
 abbrev pub added : Amounts → Amounts → Amounts
@@ -73,7 +73,7 @@ added a b =
       mtm = a .mtm +ℤ b .mtm;
       premium = a .premium +ℤ b .premium;
       minimum = a .minimum +ℤ b .minimum;
-      points = record { at = tabulate 10 (λ j. getD (a .points .at) j (pos 0) +ℤ getD (b .points .at) j (pos 0)) };
+      points = record { at = tabulate pointCount (λ j. getD (a .points .at) j (pos 0) +ℤ getD (b .points .at) j (pos 0)) };
     }
 
 -- those of class c
@@ -84,7 +84,7 @@ classAmounts d n v k c =
       mtm = mtm d n v k c;
       premium = premium d n k c;
       minimum = minimum d n k c;
-      points = record { at = tabulate 10 (λ j. offsetPoint d n k j c) };
+      points = record { at = tabulate pointCount (λ j. offsetPoint d n k j c) };
     }
 
 -- those of the classes of group g below m
@@ -104,7 +104,7 @@ pub record Small (a : Amounts) : Type 0 where
   pub mtmSmall : natAbs (a .mtm) ≤ mtmLimit
   pub premiumSmall : natAbs (a .premium) ≤ worthLimit
   pub minimumSmall : natAbs (a .minimum) ≤ worthLimit
-  pub pointsSmall : (j : ℕ) → j < 10 → natAbs (getD (a .points .at) j (pos 0)) ≤ worthLimit
+  pub pointsSmall : (j : ℕ) → j < pointCount → natAbs (getD (a .points .at) j (pos 0)) ≤ worthLimit
 
 module _ (d : List ℕ) (n v : ℕ → ℤ) (k g : ℕ) where
   pub none-below : noAmounts ≡ amountsBelow d n v k g 0
@@ -138,7 +138,7 @@ module _ (d : List ℕ) (n v : ℕ → ℤ) (k g : ℕ) where
       }
 
   module _ (r : DayRows d) (w : Budget d n v) (hk : k < 2) where
-    pub below-small : (m : ℕ) → g < 29 → m ≤ classCount d → Small (amountsBelow d n v k g m)
+    pub below-small : (m : ℕ) → g < groupCount → m ≤ classCount d → Small (amountsBelow d n v k g m)
     below-small m hg hm =
         record {
           spreadSmall = spread-over d n v r w k g m hk hg hm;
@@ -146,7 +146,7 @@ module _ (d : List ℕ) (n v : ℕ → ℤ) (k g : ℕ) where
           premiumSmall = premium-over d n v r w k g m hk hg hm;
           minimumSmall = minimum-over d n v r w k g m hk hg hm;
           pointsSmall =
-              λ j h. rw (getD-tabulate 10 (λ j. over d g m (offsetPoint d n k j)) j (pos 0) h) (point-over d n v r w k g m hk hg hm j h);
+              λ j h. rw (getD-tabulate pointCount (λ j. over d g m (offsetPoint d n k j)) j (pos 0) h) (point-over d n v r w k g m hk hg hm j h);
         }
 
     pub class-small : (c : ℕ) → c < classCount d → Small (classAmounts d n v k c)
@@ -156,5 +156,5 @@ module _ (d : List ℕ) (n v : ℕ → ℤ) (k g : ℕ) where
           mtmSmall = class-mtm d n v r w k c hk hc;
           premiumSmall = class-premium d n v r w k c hk hc;
           minimumSmall = class-minimum d n v r w k c hk hc;
-          pointsSmall = λ j h. rw (getD-tabulate 10 (λ j. offsetPoint d n k j c) j (pos 0) h) (class-offset d n v r w k c hk hc j h);
+          pointsSmall = λ j h. rw (getD-tabulate pointCount (λ j. offsetPoint d n k j c) j (pos 0) h) (class-offset d n v r w k c hk hc j h);
         }

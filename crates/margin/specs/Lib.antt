@@ -1,4 +1,2 @@
-pub mod Offset
 pub mod Groups
-pub mod Presence
 pub mod Lines

@@ -9,7 +9,7 @@ use Rattle.numbers.specs.Abs.{natAbs-+}
 use Rattle.numbers.specs.Extremes.{maxZ, largest, largest-ext, largest-abs, max-abs}
 use Rattle.numbers.specs.Table.{getD-tabulate}
 use Rattle.margin.specs.declared.group.Amounts.{Amounts}
-use Rattle.model.specs.Limits.{worthLimit, mtmLimit, spreadLimit, marginLimit}
+use Rattle.model.specs.Limits.{worthLimit, mtmLimit, spreadLimit, marginLimit, pointCount}
 use Rattle.model.specs.DayFile.{classCount}
 use Rattle.model.specs.Steps.Classes.{overClasses}
 use Rattle.model.specs.Steps.Additional.{groupPoint, additional}
@@ -19,17 +19,17 @@ use Rattle.margin.specs.Groups.{offsetPoint, over, amountsBelow, Small}
 
 -- additional requirement of ten sums and a minimum
 abbrev pub requirementOf : List ℤ → ℤ → ℤ
-requirementOf at q = maxZ (largest 10 (λ j. getD at j (pos 0))) q
+requirementOf at q = maxZ (largest pointCount (λ j. getD at j (pos 0))) q
 
 abbrev pub sumOf : ℤ → ℤ → ℤ → ℤ → ℤ
 sumOf s t p r = s +ℤ t +ℤ p +ℤ r
 
 module _ (d : List ℕ) (n v : ℕ → ℤ) (k g : ℕ) (a : Amounts) (o : a ≡ amountsBelow d n v k g (classCount d)) where
-  additional-is : largest 10 (λ j. getD (a .points .at) j (pos 0)) ≡ additional d n k g
+  additional-is : largest pointCount (λ j. getD (a .points .at) j (pos 0)) ≡ additional d n k g
   unfolding additional groupPoint overClasses
   additional-is =
-      largest-ext 10 (λ j. getD (a .points .at) j (pos 0)) (groupPoint d n k g)
-      (λ j h. ap (λ (x : Amounts). getD (x .points .at) j (pos 0)) o ∙ getD-tabulate 10 (λ j. over d g (classCount d) (offsetPoint d n k j)) j (pos 0) h)
+      largest-ext pointCount (λ j. getD (a .points .at) j (pos 0)) (groupPoint d n k g)
+      (λ j h. ap (λ (x : Amounts). getD (x .points .at) j (pos 0)) o ∙ getD-tabulate pointCount (λ j. over d g (classCount d) (offsetPoint d n k j)) j (pos 0) h)
 
   requirement-is : requirementOf (a .points .at) (a .minimum) ≡ requirement d n k g
   unfolding requirement groupMinimum overClasses
@@ -48,8 +48,8 @@ module _ (d : List ℕ) (n v : ℕ → ℤ) (k g : ℕ) (a : Amounts) (o : a ≡
 
 pub requirement-size : (a : Amounts) → Small a → natAbs (requirementOf (a .points .at) (a .minimum)) ≤ worthLimit
 requirement-size a w =
-    max-abs (largest 10 (λ j. getD (a .points .at) j (pos 0))) (a .minimum) worthLimit
-    (largest-abs 10 (λ j. getD (a .points .at) j (pos 0)) worthLimit (w .pointsSmall)) (w .minimumSmall)
+    max-abs (largest pointCount (λ j. getD (a .points .at) j (pos 0))) (a .minimum) worthLimit
+    (largest-abs pointCount (λ j. getD (a .points .at) j (pos 0)) worthLimit (w .pointsSmall)) (w .minimumSmall)
 
 -- the sums on the way
 module _ (s t p r : ℤ) (hs : natAbs s ≤ spreadLimit) (ht : natAbs t ≤ mtmLimit) (hp : natAbs p ≤ worthLimit)

@@ -7,8 +7,9 @@ ghost use Rattle.classes.specs.Tables.{entry, Given};
 ghost use Rattle.classes.specs.Range.{Range};
 ghost use Rattle.classes.specs.Starts.{startTable};
 ghost use Rattle.margin.specs.Groups.{Small, noAmounts, added, classAmounts, amountsBelow};
-use crate::additional;
+ghost use Rattle.model.specs.Limits.{groupCount};
 use accumulator::Points;
+use classes::starts::STARTS;
 use points::class_points;
 
 pub struct Amounts {
@@ -41,9 +42,9 @@ fn class_amounts(
     let after = additional::offset(whole, day_file::offset(day, c));
     Amounts {
         spread: spread::amount::spread(day, nets, book, c, a, b, quantity),
-        mtm: steps::mtm::mtm(day, nets, dvps, book, c, a, b),
-        premium: steps::premium::premium(day, nets, book, c, a, b),
-        minimum: steps::minimum::minimum(day, nets, book, c, a, b),
+        mtm: mtm::mtm(day, nets, dvps, book, c, a, b),
+        premium: premium::premium(day, nets, book, c, a, b),
+        minimum: minimum::minimum(day, nets, book, c, a, b),
         points: after,
     }
 }
@@ -85,7 +86,7 @@ impl Amounts {
 fn add_class(
     sum: Amounts,
     day: &[u32],
-    starts: &[usize; 65],
+    starts: &[usize; STARTS],
     nets: &[i64],
     dvps: &[i64],
     book: usize,
@@ -94,7 +95,7 @@ fn add_class(
 ) -> Amounts
     requires { ⌜ Given (now day) (now nets) ⌝ }
     requires { ⌜ Budget (now day) (entry (now nets)) (entry (now dvps)) ⌝ }
-    requires { ⌜ (book < 2) × (g < 29) × (c < classCount (now day)) ⌝ }
+    requires { ⌜ (book < 2) × (g < groupCount) × (c < classCount (now day)) ⌝ }
     requires { ⌜ now starts ≡ startTable (now day) ⌝ }
     requires { ⌜ sum ≡ amountsBelow (now day) (entry (now nets)) (entry (now dvps)) book g c ⌝ }
     ensures { λ r. ⌜ r ≡ amountsBelow (now (day .entry)) (entry (now (nets .entry))) (entry (now (dvps .entry))) book g (c + 1) ⌝ }
@@ -110,7 +111,7 @@ fn add_class(
 // The amounts of group g.
 pub fn group_amounts(
     day: &[u32],
-    starts: &[usize; 65],
+    starts: &[usize; STARTS],
     nets: &[i64],
     dvps: &[i64],
     book: usize,
@@ -118,7 +119,7 @@ pub fn group_amounts(
 ) -> Amounts
     requires { ⌜ Given (now day) (now nets) ⌝ }
     requires { ⌜ Budget (now day) (entry (now nets)) (entry (now dvps)) ⌝ }
-    requires { ⌜ (book < 2) × (g < 29) ⌝ }
+    requires { ⌜ (book < 2) × (g < groupCount) ⌝ }
     requires { ⌜ now starts ≡ startTable (now day) ⌝ }
     ensures { λ r. ⌜ r ≡ amountsBelow (now (day .entry)) (entry (now (nets .entry))) (entry (now (dvps .entry))) book g (classCount (now (day .entry))) ⌝ }
 {

@@ -1,5 +1,3 @@
-// Steps 6 to 9 of one book: the line of a group.
-mod additional;
+// Steps 6 to 8 of one book: the line of a group.
 mod group;
 pub mod line;
-pub mod presence;

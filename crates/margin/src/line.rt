@@ -8,12 +8,12 @@ ghost use Rattle.numbers.specs.Extremes.{maxZ, largest};
 ghost use Rattle.model.specs.Steps.Margin.{lineAmounts};
 ghost use Rattle.model.proofs.Accepted.{DayRows};
 ghost use Rattle.model.proofs.Records.{Budget};
-ghost use Rattle.model.specs.Limits.{mtmLimit, spreadLimit, worthLimit};
+ghost use Rattle.model.specs.Limits.{mtmLimit, spreadLimit, worthLimit, pointCount, groupCount};
 ghost use Rattle.classes.specs.Tables.{entry};
 ghost use Rattle.classes.specs.Starts.{startTable};
-use crate::additional;
 use crate::group;
 use accumulator::Points;
+use classes::starts::STARTS;
 
 pub struct Line {
     pub spread: i64,
@@ -26,7 +26,7 @@ pub struct Line {
 
 // Additional requirement: the larger of additional and minimum.
 fn additional_requirement(points: Points, minimum: i64) -> i64
-    ensures { λ r. ⌜ r ≡ maxZ (largest 10 (λ k. getD (points .at) k (pos 0))) minimum ⌝ }
+    ensures { λ r. ⌜ r ≡ maxZ (largest pointCount (λ k. getD (points .at) k (pos 0))) minimum ⌝ }
 {
     amounts::larger(additional::largest(points), minimum)
 }
@@ -45,7 +45,7 @@ fn group_sum(spread: i64, mtm: i64, premium: i64, requirement: i64) -> i64
 // The line of group g: margin is the group sum if positive, residual credit its negative if negative.
 pub fn group_line(
     day: &[u32],
-    starts: &[usize; 65],
+    starts: &[usize; STARTS],
     nets: &[i64],
     dvps: &[i64],
     book: usize,
@@ -53,7 +53,7 @@ pub fn group_line(
 ) -> Line
     requires { ⌜ DayRows (now day) ⌝ }
     requires { ⌜ Budget (now day) (entry (now nets)) (entry (now dvps)) ⌝ }
-    requires { ⌜ (book < 2) × (g < 29) ⌝ }
+    requires { ⌜ (book < 2) × (g < groupCount) ⌝ }
     requires { ⌜ now starts ≡ startTable (now day) ⌝ }
     ensures { λ r. ⌜ (r .spread ∷ r .mtm ∷ r .premium ∷ r .requirement ∷ r .margin ∷ r .residual ∷ []) ≡ lineAmounts (now (day .entry)) (entry (now (nets .entry))) (entry (now (dvps .entry))) book g ⌝ }
 {

@@ -10,29 +10,20 @@ use Rattle.numbers.specs.Scan.{firstBad, first-clear, first-none}
 use Rattle.model.specs.declared.Check.{Check}
 use Rattle.model.specs.declared.Verdict.{Verdict}
 use Rattle.model.specs.declared.Verdict.the-variants.{Passed, Failed}
-use Rattle.model.specs.Rows.{_orElse_, plainRow, foundRow, recordRow}
+use Rattle.model.specs.Rows.{plainRow, foundRow, recordRow}
 use Rattle.model.specs.DayFile.{classCount, seriesCount}
-use Rattle.model.specs.DayChecks.{row10, row11, row12, row13, row14, row15, row16, row17, dayCheck}
+use Rattle.model.specs.DayChecks.{row10, row11, row12, row13, row14, row15, row16, row17, classCheck, seriesCheck, recordCheck, dayCheck}
 use Rattle.model.specs.Batch.{recordCount}
-use Rattle.model.specs.BatchChecks.{row20, row21, row22, row23, row24, row25, row26, batchCheck}
+use Rattle.model.specs.BatchChecks.{row20, row21, row22, row23, row24, row25, row26, batchForm, positionCheck, batchCheck}
 use Rattle.model.specs.Netting.{row30, nettingCheck}
 use Rattle.model.specs.Calls.{verdict, Accepted}
+use Rattle.model.proofs.Verdicts.{_then_, failed-not, tried-passed, tried-pass}
 
-failed-not : {X : Type 0} (k : Check) → Failed k ≡ Passed → X
-failed-not k e = let z : _≡_ {A = ℕ} 0 1 = cc in absurd (omega arith)
+pub plain-clear : (k : ℕ → Check) (b : Bool) → plainRow k b ≡ Passed → b ≡ false
+plain-clear k true e = failed-not (k 0) e
+plain-clear k false e = refl
 
-both : (v w : Verdict) → v orElse w ≡ Passed → (v ≡ Passed) × (w ≡ Passed)
-both Passed w e = (refl, e)
-both (Failed k) w e = failed-not k e
-
-join : (v w : Verdict) → v ≡ Passed → w ≡ Passed → v orElse w ≡ Passed
-join v w p q = rw p q
-
-plain : (k : ℕ → Check) (b : Bool) → plainRow k b ≡ Passed → b ≡ false
-plain k true e = failed-not (k 0) e
-plain k false e = refl
-
-plain-back : (k : ℕ → Check) (b : Bool) → b ≡ false → plainRow k b ≡ Passed
+pub plain-back : (k : ℕ → Check) (b : Bool) → b ≡ false → plainRow k b ≡ Passed
 plain-back k b e = rw e
 
 found : (k : ℕ → Check) (f : Found) → foundRow k f ≡ Passed → f ≡ Nothing
@@ -70,49 +61,43 @@ pub record BatchRows (d b : List ℕ) : Type 0 where
   pub at30 : (r : ℕ) → r < recordCount b → row30 d b r ≡ false
 
 pub day-checked : (d : List ℕ) → dayCheck d ≡ Passed → DayRows d
-unfolding dayCheck
+unfolding dayCheck recordCheck classCheck seriesCheck
 day-checked d e =
-    let a10 = both _ _ e in
-    let a11 = both _ _ (a10 .1) in
-    let a12 = both _ _ (a11 .1) in
-    let a13 = both _ _ (a12 .1) in
-    let a14 = both _ _ (a13 .1) in
-    let a15 = both _ _ (a14 .1) in
-    let a16 = both _ _ (a15 .1) in
+    let file = tried-passed _ e in
+    let records = tried-passed _ (file .1 .1 .0) in
+    let classes = tried-passed _ (records .1 .0) in
+    let series = tried-passed _ (records .1 .1 .0) in
     record {
-      at10 = plain _ _ (a10 .0);
-      at11 = plain _ _ (a11 .0);
-      at12 = clear _ _ _ (a12 .0);
-      at13 = clear _ _ _ (a13 .0);
-      at14 = clear _ _ _ (a14 .0);
-      at15 = clear _ _ _ (a15 .0);
-      at16 = clear _ _ _ (a16 .0);
-      at17 = clear _ _ _ (a16 .1);
+      at10 = plain-clear _ _ (file .0);
+      at11 = plain-clear _ _ (file .1 .0);
+      at12 = clear _ _ _ (records .0);
+      at13 = clear _ _ _ (classes .0);
+      at14 = clear _ _ _ (classes .1 .0);
+      at15 = clear _ _ _ (series .0);
+      at16 = clear _ _ _ (series .1 .0);
+      at17 = clear _ _ _ (series .1 .1 .0);
     }
 
 module _ (d b : List ℕ) where
   pub batch-checked : batchCheck d b ≡ Passed → BatchChecks d b
-  unfolding batchCheck
+  unfolding batchCheck batchForm positionCheck
   batch-checked e =
-      let a20 = both _ _ e in
-      let a21 = both _ _ (a20 .1) in
-      let a22 = both _ _ (a21 .1) in
-      let a23 = both _ _ (a22 .1) in
-      let a24 = both _ _ (a23 .1) in
-      let a25 = both _ _ (a24 .1) in
+      let batch = tried-passed _ e in
+      let form = tried-passed _ (batch .0) in
+      let positions = tried-passed _ (batch .1 .0) in
       record {
-        at20 = plain _ _ (a20 .0);
-        at21 = plain _ _ (a21 .0);
-        at22 = clear _ _ _ (a22 .0);
-        at23 = clear _ _ _ (a23 .0);
-        at24 = clear _ _ _ (a24 .0);
-        at25 = clear _ _ _ (a25 .0);
-        at26 = clear _ _ _ (a25 .1);
+        at20 = plain-clear _ _ (form .0);
+        at21 = plain-clear _ _ (form .1 .0);
+        at22 = clear _ _ _ (form .1 .1 .0);
+        at23 = clear _ _ _ (positions .0);
+        at24 = clear _ _ _ (positions .1 .0);
+        at25 = clear _ _ _ (positions .1 .1 .0);
+        at26 = clear _ _ _ (positions .1 .1 .1 .0);
       }
 
   pub day-passed : Accepted d b → dayCheck d ≡ Passed
   unfolding verdict
-  day-passed e = both (dayCheck d) _ e .0
+  day-passed e = tried-passed _ e .0
 
   pub day-rows : Accepted d b → DayRows d
   day-rows e = day-checked d (day-passed e)
@@ -120,21 +105,19 @@ module _ (d b : List ℕ) where
   pub batch-rows : Accepted d b → BatchRows d b
   unfolding verdict nettingCheck
   batch-rows e =
-      let rest = both (batchCheck d b) (nettingCheck d b) (both (dayCheck d) _ e .1) in
-      record { checks = batch-checked (rest .0); at30 = clear _ _ _ (rest .1) }
+      let stages = tried-passed _ e in
+      record { checks = batch-checked (stages .1 .0); at30 = clear _ _ _ (stages .1 .1 .0) }
 
   pub all-passed : dayCheck d ≡ Passed → batchCheck d b ≡ Passed → nettingCheck d b ≡ Passed → Accepted d b
   unfolding verdict
-  all-passed p q r = join _ _ p (join _ _ q r)
+  all-passed p q r = tried-pass _ (p then q then r then tt)
 
   pub rows-accepted : dayCheck d ≡ Passed → BatchRows d b → Accepted d b
-  unfolding verdict batchCheck nettingCheck
+  unfolding batchCheck batchForm positionCheck nettingCheck
   rows-accepted p r =
-      join _ _ p
-      (join _ _
-      (join _ _ (plain-back _ _ (r .checks .at20))
-      (join _ _ (plain-back _ _ (r .checks .at21))
-      (join _ _ (clear-back _ _ _ (r .checks .at22))
-      (join _ _ (clear-back _ _ _ (r .checks .at23))
-      (join _ _ (clear-back _ _ _ (r .checks .at24)) (join _ _ (clear-back _ _ _ (r .checks .at25)) (clear-back _ _ _ (r .checks .at26))))))))
-      (clear-back _ _ _ (r .at30)))
+      all-passed p
+      (tried-pass _
+      (tried-pass _ (plain-back _ _ (r .checks .at20) then plain-back _ _ (r .checks .at21) then clear-back _ _ _ (r .checks .at22) then tt)
+      then tried-pass _ (clear-back _ _ _ (r .checks .at23) then clear-back _ _ _ (r .checks .at24) then clear-back _ _ _ (r .checks .at25) then clear-back _ _ _ (r .checks .at26) then tt)
+      then tt))
+      (clear-back _ _ _ (r .at30))

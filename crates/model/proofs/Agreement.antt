@@ -1,16 +1,14 @@
--- The definitions against worked figures, in one place: M1 to M9, the accounts on which seen mistakes show, the documents' worked examples, what none of these shows, and a refusal of each row.
+-- The definitions against worked figures, in one place: M1 to M9, the accounts on which seen mistakes show, what none of these shows, and a refusal of each row.
 use mathlib.Core.Path.{_≡_}
 use Rattle.model.specs.Accounts.{allComputed, allPublished}
 use Rattle.model.specs.Figures.{figures, figures-agree}
 use Rattle.model.specs.Mistakes.{mistakes, mistakes-agree}
-use Rattle.model.specs.Examples.{examples, examples-agree}
 use Rattle.model.specs.Cases.{cases, cases-agree}
 use Rattle.model.specs.Refusals.{refusals, refusals-agree}
 
 pub record Agreement : Type 0 where
   pub scope : allComputed figures ≡ allPublished figures
   pub mistaken : allComputed mistakes ≡ allPublished mistakes
-  pub documents : allComputed examples ≡ allPublished examples
   pub further : allComputed cases ≡ allPublished cases
   pub refused : allComputed refusals ≡ allPublished refusals
 
@@ -19,7 +17,6 @@ agreement =
     record {
       scope = figures-agree;
       mistaken = mistakes-agree;
-      documents = examples-agree;
       further = cases-agree;
       refused = refusals-agree;
     }

@@ -15,6 +15,7 @@ use Rattle.model.proofs.Readable.{Readable, readable}
 use Rattle.model.proofs.Totals.{Totals, totals-are-margins}
 use Rattle.model.proofs.ByteWords.{bytes-as-words}
 use Rattle.model.proofs.Numbers.{Numbers, byte-numbers, numbers as numbers-of}
+use Rattle.model.specs.Netting.{net, dvp}
 
 pub record Corollaries : Type 0 where
   -- a refusal leaves the memory as it was
@@ -24,7 +25,7 @@ pub record Corollaries : Type 0 where
   -- accepted, with room: the answer is the length, and header, maps, lines, totals and the old words stand in this order
   pub written : (d b m : List ℕ) → Accepted d b → needed d b ≤ length m → Written d b m
   -- the amounts read from the words are those of the steps
-  pub read : (d b m : List ℕ) → Accepted d b → needed d b ≤ length m → Readable d b (memoryAfter d b m)
+  pub read : (d b m : List ℕ) → Accepted d b → needed d b ≤ length m → Readable d (net b) (net b) (dvp b) (memoryAfter d b m)
   -- the totals read are sums of the lines' margins, whatever the residual credits
   pub totals : (d b m : List ℕ) → Accepted d b → needed d b ≤ length m → Totals (memoryAfter d b m)
   -- the paper's number and value of the answer, and that the value is below 2 ^ 32

@@ -10,9 +10,10 @@ use lib.ListN.{length, length-append}
 use Rattle.numbers.specs.Maps.{mapBelow, bit, blocks, ones-suc}
 use Rattle.model.specs.Words.{word}
 use Rattle.model.specs.Steps.{hasLine}
-use Rattle.model.specs.Report.{wordsOfAmounts, bookMap, lineWords, bookLines, lineCount, totals, reportWords}
+use Rattle.model.specs.Report.{wordsOfAmounts, bookMap, lineWords, bookLines, lineCount, totals, reportWords, wordsALine}
 use Rattle.model.specs.Reading.{countIn}
 use Rattle.model.proofs.Read.{line-length, count-read}
+use Rattle.model.specs.Limits.{groupCount}
 
 -- blocks one behind the other
 unfoldable pub joined : List (List ℕ) → List ℕ
@@ -70,35 +71,35 @@ module _ (t : ℕ → Bool) (L : ℕ → List ℕ) where
 
 -- ---- the report
 
-module _ (d : List ℕ) (n v : ℕ → ℤ) where
+module _ (d : List ℕ) (n u v : ℕ → ℤ) where
   unfoldable pub bookBlocks : ℕ → List (List ℕ)
-  bookBlocks k = chosen (hasLine d n v k) (lineWords d n v k) 29
+  bookBlocks k = chosen (hasLine d n v k) (lineWords d u v k) groupCount
 
   -- the line blocks of the report
   unfoldable pub lineBlocks : List (List ℕ)
   lineBlocks = bookBlocks 0 ++ bookBlocks 1
 
-  book-joined : (k : ℕ) → joined (bookBlocks k) ≡ bookLines d n v k
+  book-joined : (k : ℕ) → joined (bookBlocks k) ≡ bookLines d n u v k
   unfolding bookBlocks bookLines
-  book-joined k = chosen-joined (hasLine d n v k) (lineWords d n v k) 29
+  book-joined k = chosen-joined (hasLine d n v k) (lineWords d u v k) groupCount
 
   -- they are what stands between the maps and the totals
-  pub blocks-are-lines : reportWords d n v
+  pub blocks-are-lines : reportWords d n u v
       ≡ word 1 (lineCount d n v) ∷ word 4 (bookMap d n v 0) ∷ word 4 (bookMap d n v 1)
-      ∷ (joined lineBlocks ++ word 7 0 ∷ wordsOfAmounts (totals d n v))
+      ∷ (joined lineBlocks ++ word 7 0 ∷ wordsOfAmounts (totals d n u v))
   unfolding reportWords lineBlocks
   blocks-are-lines =
       ap (λ (l : List ℕ). word 1 (lineCount d n v) ∷ word 4 (bookMap d n v 0) ∷ word 4 (bookMap d n v 1) ∷ l)
-      (sym (append-assoc (bookLines d n v 0) (bookLines d n v 1) (word 7 0 ∷ wordsOfAmounts (totals d n v)))
-      ∙ ap (λ (l : List ℕ). l ++ word 7 0 ∷ wordsOfAmounts (totals d n v))
+      (sym (append-assoc (bookLines d n u v 0) (bookLines d n u v 1) (word 7 0 ∷ wordsOfAmounts (totals d n u v)))
+      ∙ ap (λ (l : List ℕ). l ++ word 7 0 ∷ wordsOfAmounts (totals d n u v))
       (sym (joined-append (bookBlocks 0) (bookBlocks 1) ∙ (λ i. book-joined 0 i ++ book-joined 1 i))))
 
   -- each has 19 words
-  pub blocks-each : Each 19 lineBlocks
+  pub blocks-each : Each wordsALine lineBlocks
   unfolding lineBlocks bookBlocks
   blocks-each =
-      each-append (chosen-each (hasLine d n v 0) (lineWords d n v 0) 19 (line-length d n v 0) 29)
-      (chosen-each (hasLine d n v 1) (lineWords d n v 1) 19 (line-length d n v 1) 29)
+      each-append (chosen-each (hasLine d n v 0) (lineWords d u v 0) wordsALine (line-length d u v 0) groupCount)
+      (chosen-each (hasLine d n v 1) (lineWords d u v 1) wordsALine (line-length d u v 1) groupCount)
 
   -- they are as many as the two maps have ones
   pub ones-are-blocks : ones (bookMap d n v 0) + ones (bookMap d n v 1) ≡ length lineBlocks
@@ -107,11 +108,11 @@ module _ (d : List ℕ) (n v : ℕ → ℤ) where
       omega (
         arith,
         length-append (bookBlocks 0) (bookBlocks 1),
-        chosen-ones (hasLine d n v 0) (lineWords d n v 0) 29,
-        chosen-ones (hasLine d n v 1) (lineWords d n v 1) 29,
+        chosen-ones (hasLine d n v 0) (lineWords d u v 0) groupCount,
+        chosen-ones (hasLine d n v 1) (lineWords d u v 1) groupCount,
       )
 
   -- and as the header says
-  pub header-is-blocks : countIn (reportWords d n v) ≡ length lineBlocks
+  pub header-is-blocks : countIn (reportWords d n u v) ≡ length lineBlocks
   unfolding lineCount
-  header-is-blocks = ap countIn (sym (append-nil (reportWords d n v))) ∙ count-read d n v [] ∙ ones-are-blocks
+  header-is-blocks = ap countIn (sym (append-nil (reportWords d n u v))) ∙ count-read d n u v [] ∙ ones-are-blocks

@@ -14,7 +14,7 @@ use Rattle.numbers.specs.declared.Found.{Found}
 use Rattle.numbers.specs.declared.Found.the-variants.{At, Nothing}
 use Rattle.numbers.specs.Scan.{firstBad, first-at, first-before}
 use Rattle.model.specs.Words.{bits}
-use Rattle.model.specs.DayFile.{classCount, classNumber, seriesCount, seriesKey, serial, expiry, seriesType, seriesClassNumber, strike, isFuture, isSecurity, foundClass, placeOr, seriesClass}
+use Rattle.model.specs.DayFile.{classCount, classNumber, seriesCount, seriesKey, serial, expiry, seriesType, seriesClassNumber, strike, isFuture, isDerivative, isSecurity, foundClass, placeOr, seriesClass}
 use Rattle.model.specs.DayChecks.{row16, row17}
 use Rattle.model.specs.Steps.{notZero, ofClass, futureOf, openNet, heldFuture}
 use Rattle.numbers.specs.Tests.{and-left, and-right, or-left, or-right}
@@ -66,14 +66,11 @@ module _ (d : List ℕ) (r : DayRows d) where
 
   -- a future has serial 0 and strike 0
   module _ (s : ℕ) (h : s < seriesCount d) (f : isFuture (seriesType d s) ≡ true) where
-    is-one : seriesType d s ≡ 1
-    is-one = eqb-true (seriesType d s) 1 f
-
     abbrev A : Bool
-    A = not (leb 1 (seriesType d s) && leb (seriesType d s) 6)
+    A = not (isDerivative (seriesType d s) || isSecurity (seriesType d s))
 
     abbrev B : Bool
-    B = leb (seriesType d s) 3 && ltb 0 (serial d s)
+    B = isDerivative (seriesType d s) && ltb 0 (serial d s)
 
     abbrev C : Bool
     C = isFuture (seriesType d s) && ltb 0 (strike d s)
@@ -88,7 +85,7 @@ module _ (d : List ℕ) (r : DayRows d) where
     no-serial : serial d s ≡ 0
     no-serial =
         let p : B ≡ false = or-right A B (or-left (A || B) C front) in
-        let q : ltb 0 (serial d s) ≡ false = rw (le-leb (seriesType d s) 3 (omega (arith, is-one))) at p in
+        let q : ltb 0 (serial d s) ≡ false = rw f at p in
         omega (arith, ltb-false 0 (serial d s) q)
 
     no-strike : strike d s ≡ 0
@@ -96,6 +93,10 @@ module _ (d : List ℕ) (r : DayRows d) where
         let p : C ≡ false = or-right (A || B) C front in
         let q : ltb 0 (strike d s) ≡ false = rw f at p in
         omega (arith, ltb-false 0 (strike d s) q)
+
+-- futures are of one type
+one-future : (t u : ℕ) → isFuture t ≡ true → isFuture u ≡ true → t ≡ u
+one-future t u p q = eqb-true t _ p ∙ sym (eqb-true u _ q)
 
 -- two keys with the same class number and type, and serial 0
 by-expiry : (x y a b c e : ℕ) → x < y → a * 2 ^ 23 + b * 2 ^ 19 + c * 2 ^ 7 + 0 ≡ x → a * 2 ^ 23 + b * 2 ^ 19 + e * 2 ^ 7 + 0 ≡ y → c < e
@@ -116,9 +117,10 @@ expiry-order d c s t r hc h l p q =
     let k : seriesKey d s < seriesKey d t = omega (arith, rank-order d r s t h l, no-strike d r s hs fs, no-strike d r t l ft) in
     let es = fields (seriesKey d s) (omega arith) in
     let et = fields (seriesKey d t) (omega arith) in
-    by-expiry (seriesKey d s) (seriesKey d t) (classNumber d c) 1 (expiry d s) (expiry d t) k
-    (rw (← ns, is-one d r s hs fs, no-serial d r s hs fs) at es)
-    (rw (← nt, is-one d r t l ft, no-serial d r t l ft) at et)
+    let same : seriesType d t ≡ seriesType d s = one-future (seriesType d t) (seriesType d s) ft fs in
+    by-expiry (seriesKey d s) (seriesKey d t) (classNumber d c) (seriesType d s) (expiry d s) (expiry d t) k
+    (rw (← ns, no-serial d r s hs fs) at es)
+    (rw (← nt, same, no-serial d r t l ft) at et)
 
 -- the spot: no future of the class that is held has an earlier expiry
 pub spot-earliest : (d : List ℕ) (n : ℕ → ℤ) (k c s t : ℕ) → DayRows d → c < classCount d

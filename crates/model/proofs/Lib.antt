@@ -16,12 +16,14 @@ pub mod ByteWords
 pub mod Digits
 pub mod Edits
 pub mod Demand
+pub mod SmallReport
 pub mod Readable
 pub mod Whole
 pub mod Records
 pub mod Together
 pub mod Verdicts
 pub mod Sizes
+pub mod Outcome
 pub mod Untouched
 pub mod Written
 pub mod Totals

@@ -16,6 +16,7 @@ use Rattle.model.specs.DayFile.{classCount, seriesCount, seriesType, ser
 use Rattle.model.specs.Netting.{position}
 use Rattle.model.specs.Steps
 use Rattle.numbers.specs.Tests.{and-left}
+use Rattle.model.specs.Limits.{pointCount}
 
 -- the two families agree on the positions of group g in book k
 pub record Agree (d : List ℕ) (n₁ v₁ n₂ v₂ : ℕ → ℤ) (k g : ℕ) : Type 0 where
@@ -137,7 +138,7 @@ module _ (d : List ℕ) (n₁ v₁ n₂ v₂ : ℕ → ℤ) (k g : ℕ) (a : Agr
 
     minimum-same : Steps.minimum d n₁ k c ≡ Steps.minimum d n₂ k c
     unfolding Steps.minimum
-    minimum-same = sumTo-ext 6 _ _ (λ i p. ap (λ (z : ℤ). absZ z *ℤ pos (Steps.minimumRate d c (i + 1))) (type-same (i + 1)))
+    minimum-same = sumTo-ext Steps.minimumTypes _ _ (λ i p. ap (λ (z : ℤ). absZ z *ℤ pos (Steps.minimumRate d c (i + 1))) (type-same (i + 1)))
 
   -- ---- the group
 
@@ -151,7 +152,7 @@ module _ (d : List ℕ) (n₁ v₁ n₂ v₂ : ℕ → ℤ) (k g : ℕ) (a : Agr
 
   additional-same : Steps.additional d n₁ k g ≡ Steps.additional d n₂ k g
   unfolding Steps.additional
-  additional-same = largest-ext 10 _ _ (λ j p. group-point-same j)
+  additional-same = largest-ext pointCount _ _ (λ j p. group-point-same j)
 
   group-spread-same : Steps.groupSpread d n₁ k g ≡ Steps.groupSpread d n₂ k g
   unfolding Steps.groupSpread

@@ -14,11 +14,12 @@ use Rattle.model.specs.Words.{kind, payload, bits, amount}
 use Rattle.model.specs.DayFile.{dayHeader, classCount, seriesCount, seriesGroup}
 use Rattle.model.specs.DayChecks.{row10}
 use Rattle.model.specs.Batch.{recordCount}
-use Rattle.model.specs.Netting.{position, net, dvp}
+use Rattle.model.specs.Netting.{position, net, dvp, places}
 use Rattle.model.specs.Locality.{recordAt, records, ofLine, struck, Edit}
 use Rattle.numbers.specs.Tests.{and-left, and-right, or-left, or-right}
 use Rattle.model.proofs.Accepted.{DayRows}
 use Rattle.model.proofs.Lines.{Agree}
+use Rattle.model.specs.Limits.{mostClasses, mostSeries}
 
 abbrev pub keyOf : List ℕ → ℕ
 keyOf w = bits (payload (getD w 0 0)) 0 10
@@ -49,13 +50,13 @@ dvp-order b₁ b₂ p = fun-ext (λ q. dvp-sum b₁ q ∙ sum-perm (dvpOf q) (re
 -- ---- an edit in group g of book k
 
 -- the fields of a key
-pub key-place : (q k x s : ℕ) → s < 256 → x < 2 → bits q 0 10 ≡ position k x s → bits q 0 8 ≡ s
+pub key-place : (q k x s : ℕ) → s < places → x < 2 → bits q 0 10 ≡ position k x s → bits q 0 8 ≡ s
 key-place q k x s hs hx e = omega arith
 
-key-fail : (q k x s : ℕ) → s < 256 → x < 2 → k < 2 → bits q 0 10 ≡ position k x s → bits q 9 1 ≡ k
+key-fail : (q k x s : ℕ) → s < places → x < 2 → k < 2 → bits q 0 10 ≡ position k x s → bits q 9 1 ≡ k
 key-fail q k x s hs hx hk e = omega arith
 
-module _ (d : List ℕ) (g k : ℕ) (s x h : ℕ) (hs : s < 256) (hx : x < 2) (hh : h < 2) (other : seriesGroup d s ≡ g → h ≡ k → ⊥) where
+module _ (d : List ℕ) (g k : ℕ) (s x h : ℕ) (hs : s < places) (hx : x < 2) (hh : h < 2) (other : seriesGroup d s ≡ g → h ≡ k → ⊥) where
   -- a struck record is of no position of another line
   apart : (w : List ℕ) → not (ofLine d g k w) ≡ false → eqb (keyOf w) (position h x s) ≡ false
   apart w e =
@@ -86,18 +87,18 @@ module _ (d : List ℕ) (g k : ℕ) (s x h : ℕ) (hs : s < 256) (hx : x < 2) (h
       ∙ kept (dvpOf (position h x s)) b₁ b₂ e (λ w q. ap (λ (t : Bool). cond t (amount (getD w 3 0) (getD w 4 0) (getD w 5 0)) (pos 0)) (apart w q))
       ∙ sym (dvp-sum b₂ (position h x s))
 
--- an accepted day file has at most 64 classes and 256 series
+-- an accepted day file has so many classes and series at most
 module _ (d : List ℕ) (r : DayRows d) where
   abbrev front : Bool
   front = eqb (length d) 0 || not (eqb (kind (dayHeader d)) 1) || ltb 0 (bits (payload (dayHeader d)) 16 13)
 
-  pub few-classes : classCount d ≤ 64
+  pub few-classes : classCount d ≤ mostClasses
   unfolding row10
-  few-classes = ltb-false 64 (classCount d) (or-right front (ltb 64 (classCount d)) (or-left (front || ltb 64 (classCount d)) (ltb 256 (seriesCount d)) (r .at10)))
+  few-classes = ltb-false mostClasses (classCount d) (or-right front (ltb mostClasses (classCount d)) (or-left (front || ltb mostClasses (classCount d)) (ltb mostSeries (seriesCount d)) (r .at10)))
 
-  pub few-series : seriesCount d ≤ 256
+  pub few-series : seriesCount d ≤ mostSeries
   unfolding row10
-  few-series = ltb-false 256 (seriesCount d) (or-right (front || ltb 64 (classCount d)) (ltb 256 (seriesCount d)) (r .at10))
+  few-series = ltb-false mostSeries (seriesCount d) (or-right (front || ltb mostClasses (classCount d)) (ltb mostSeries (seriesCount d)) (r .at10))
 
 -- so the positions of every other line agree
 pub agree : (d b₁ b₂ : List ℕ) (g k g′ k′ : ℕ) → DayRows d → Edit d g k b₁ b₂ → k′ < 2 → (g′ ≡ g → k′ ≡ k → ⊥)

@@ -19,6 +19,7 @@ use Rattle.model.specs.Netting.{position}
 use Rattle.model.specs.Steps
 use Rattle.numbers.specs.Tests.{or-left, or-right}
 use Rattle.model.proofs.Lines.{amounts-same}
+use Rattle.model.specs.Limits.{pointCount}
 
 abbrev six : List ℤ
 six = pos 0 ∷ pos 0 ∷ pos 0 ∷ pos 0 ∷ pos 0 ∷ pos 0 ∷ []
@@ -88,11 +89,11 @@ module _ (d : List ℕ) (k : ℕ) where
   no-minimum : (c : ℕ) → Steps.minimum d empty k c ≡ pos 0
   unfolding Steps.minimum Steps.typeNet
   no-minimum c =
-      sumTo-ext 6 _ (λ i. pos 0)
+      sumTo-ext Steps.minimumTypes _ (λ i. pos 0)
       (λ i h.
       ap (λ (z : ℤ). absZ z *ℤ pos (Steps.minimumRate d c (i + 1))) (sumWhere-zeros (seriesCount d) (Steps.typeOf d c (i + 1)) empty (λ s. refl))
       ∙ zero-*ℤ (pos (Steps.minimumRate d c (i + 1))))
-      ∙ sumTo-zero 6
+      ∙ sumTo-zero Steps.minimumTypes
 
   module _ (g : ℕ) where
     no-classes : (f : ℕ → ℤ) → ((c : ℕ) → f c ≡ pos 0) → Steps.overClasses d g f ≡ pos 0
@@ -102,7 +103,7 @@ module _ (d : List ℕ) (k : ℕ) where
     no-additional : Steps.additional d empty k g ≡ pos 0
     unfolding Steps.additional Steps.groupPoint Steps.afterOffset largest
     no-additional =
-        largest-ext 10 _ (λ j. pos 0) (λ j h. no-classes _ (λ c. ap (Steps.afterOffset (offset d c)) (no-point c j)))
+        largest-ext pointCount _ (λ j. pos 0) (λ j h. no-classes _ (λ c. ap (Steps.afterOffset (offset d c)) (no-point c j)))
 
     no-requirement : Steps.requirement d empty k g ≡ pos 0
     unfolding Steps.requirement Steps.groupMinimum

@@ -11,7 +11,7 @@ use Rattle.model.specs.Limits.{positionLimit, mostRecords}
 use Rattle.numbers.specs.Lists.{any-perm, hit-any, nothing-hit}
 use Rattle.model.specs.Words.{kind, payload, bits}
 use Rattle.model.specs.DayFile.{multiplier}
-use Rattle.model.specs.Batch.{recordCount}
+use Rattle.model.specs.Batch.{recordCount, batchWords}
 use Rattle.model.specs.BatchChecks.{row20, row21, badRecordWord, badDvp, row22, row23, row24, row25, row26}
 use Rattle.model.specs.Netting.{net, dvp, row30}
 use Rattle.model.specs.Report.{reportWords, wordsNeeded}
@@ -44,7 +44,7 @@ module _ (d b₁ b₂ : List ℕ) (o : Reordered b₁ b₂) where
       record {
         checks = record {
           at20 = sym (λ i. eqb (o .long i) 0 || not (eqb (kind (o .header i)) 1) || ltb mostRecords (payload (o .header i))) ∙ r .checks .at20;
-          at21 = sym (λ i. not (eqb (o .long i) (1 + 6 * payload (o .header i)))) ∙ r .checks .at21;
+          at21 = sym (λ i. not (eqb (o .long i) (batchWords (payload (o .header i))))) ∙ r .checks .at21;
           at22 = carried b₁ b₂ (o .same) (λ w. row22 (0 ∷ w) 0) (r .checks .at22);
           at23 = carried b₁ b₂ (o .same) (λ w. row23 d (0 ∷ w) 0) (r .checks .at23);
           at24 = carried b₁ b₂ (o .same) (λ w. row24 d (0 ∷ w) 0) (r .checks .at24);
@@ -66,7 +66,7 @@ module _ (d b₁ b₂ : List ℕ) (o : Reordered b₁ b₂) where
 
   memory-same : (m : List ℕ) → Accepted d b₁ → memoryAfter d b₁ m ≡ memoryAfter d b₂ m
   unfolding memoryAfter
-  memory-same m a = λ i. written (answer-same (length m) a i) (reportWords d (net-same i) (dvp-same i)) m
+  memory-same m a = λ i. written (answer-same (length m) a i) (reportWords d (net-same i) (net-same i) (dvp-same i)) m
 
 pub orders : Orders
 orders =

@@ -27,16 +27,17 @@ use Rattle.model.specs.declared.ReportFault.the-variants.{TooShort}
 use Rattle.model.specs.declared.Verdict.{Verdict}
 use Rattle.model.specs.declared.Verdict.the-variants.{Passed, Failed}
 use Rattle.model.specs.Answers.{placeOf, valueOf}
-use Rattle.model.specs.Rows.{_orElse_, plainRow, foundRow, recordRow}
+use Rattle.model.specs.Rows.{tried, plainRow, foundRow, recordRow}
 use Rattle.model.specs.DayFile.{classCount, seriesCount}
-use Rattle.model.specs.DayChecks.{row10, row11, row12, row13, row14, row15, row16, row17, dayCheck}
+use Rattle.model.specs.DayChecks.{row10, row11, row12, row13, row14, row15, row16, row17, classCheck, seriesCheck, recordCheck, dayCheck}
 use Rattle.model.specs.Batch.{recordCount}
-use Rattle.model.specs.BatchChecks.{row20, row21, row22, row23, row24, row25, row26, batchCheck}
+use Rattle.model.specs.BatchChecks.{row20, row21, row22, row23, row24, row25, row26, batchForm, positionCheck, batchCheck}
 use Rattle.model.specs.Netting.{net, dvp, row30, nettingCheck}
 use Rattle.model.specs.Report.{wordsNeeded}
 use Rattle.model.specs.Calls.{verdict, answer, answerOf, roomAnswer, needed}
 use Rattle.model.specs.Bytes.{wordsOf, row1, row2, bytesCheck, byteAnswer}
 use Rattle.model.proofs.Read.{count-small}
+use Rattle.model.proofs.Verdicts.{Each, _then_, tried-each}
 
 abbrev placeIn : Verdict → ℕ
 placeIn Passed = 0
@@ -45,9 +46,8 @@ placeIn (Failed k) = placeOf k
 record Low (v : Verdict) : Type 0 where
   low : placeIn v < 2 ^ 32
 
-either : (v w : Verdict) → Low v → Low w → Low (v orElse w)
-either Passed w p q = q
-either (Failed k) w p q = p
+all-low : (l : List Verdict) → Each Low l → Low (tried l)
+all-low l h = tried-each Low (record { low = omega arith }) l h
 
 plain-low : (k : ℕ → Check) (b : Bool) → placeOf (k 0) ≡ 0 → Low (plainRow k b)
 plain-low k true e = record { low = omega (arith, e) }
@@ -61,32 +61,46 @@ record-low k t n e h = by (firstBad t n) refl
     by Nothing q = record { low = omega arith }
 
 day-low : (d : List ℕ) → Low (dayCheck d)
-unfolding dayCheck
+unfolding dayCheck recordCheck classCheck seriesCheck
 day-low d =
-    either _ _ (plain-low (DayHeader BadDayHeader) (row10 d) refl)
-    (either _ _ (plain-low (DayLength BadDayLength) (row11 d) refl)
-    (either _ _ (record-low (DayWords BadDayWord) (row12 d) (classCount d + seriesCount d) (λ i. refl) (omega arith))
-    (either _ _ (record-low (Classes ClassOrder) (row13 d) (classCount d) (λ i. refl) (omega arith))
-    (either _ _ (record-low (Classes OffsetDiffers) (row14 d) (classCount d) (λ i. refl) (omega arith))
-    (either _ _ (record-low (Series ClassAbsent) (row15 d) (seriesCount d) (λ i. refl) (omega arith))
-    (either _ _ (record-low (Series SeriesOrder) (row16 d) (seriesCount d) (λ i. refl) (omega arith))
-    (record-low (Series BadType) (row17 d) (seriesCount d) (λ i. refl) (omega arith))))))))
+    all-low _
+    (plain-low (DayHeader BadDayHeader) (row10 d) refl
+    then plain-low (DayLength BadDayLength) (row11 d) refl
+    then all-low _
+    (record-low (DayWords BadDayWord) (row12 d) (classCount d + seriesCount d) (λ i. refl) (omega arith)
+    then all-low _
+    (record-low (Classes ClassOrder) (row13 d) (classCount d) (λ i. refl) (omega arith)
+    then record-low (Classes OffsetDiffers) (row14 d) (classCount d) (λ i. refl) (omega arith)
+    then tt)
+    then all-low _
+    (record-low (Series ClassAbsent) (row15 d) (seriesCount d) (λ i. refl) (omega arith)
+    then record-low (Series SeriesOrder) (row16 d) (seriesCount d) (λ i. refl) (omega arith)
+    then record-low (Series BadType) (row17 d) (seriesCount d) (λ i. refl) (omega arith)
+    then tt)
+    then tt)
+    then tt)
 
 batch-low : (d b : List ℕ) → Low (batchCheck d b)
-unfolding batchCheck
+unfolding batchCheck batchForm positionCheck
 batch-low d b =
-    either _ _ (plain-low (BatchHeader BadBatchHeader) (row20 b) refl)
-    (either _ _ (plain-low (BatchLength BadBatchLength) (row21 b) refl)
-    (either _ _ (record-low (BatchWords BadBatchWord) (row22 b) (recordCount b) (λ i. refl) (omega arith))
-    (either _ _ (record-low (Positions SeriesAbsent) (row23 d b) (recordCount b) (λ i. refl) (omega arith))
-    (either _ _ (record-low (Positions ExercisedNonOption) (row24 d b) (recordCount b) (λ i. refl) (omega arith))
-    (either _ _ (record-low (Positions FailNonSecurity) (row25 d b) (recordCount b) (λ i. refl) (omega arith))
-    (record-low (Positions DvpNonSecurity) (row26 d b) (recordCount b) (λ i. refl) (omega arith)))))))
+    all-low _
+    (all-low _
+    (plain-low (BatchHeader BadBatchHeader) (row20 b) refl
+    then plain-low (BatchLength BadBatchLength) (row21 b) refl
+    then record-low (BatchWords BadBatchWord) (row22 b) (recordCount b) (λ i. refl) (omega arith)
+    then tt)
+    then all-low _
+    (record-low (Positions SeriesAbsent) (row23 d b) (recordCount b) (λ i. refl) (omega arith)
+    then record-low (Positions ExercisedNonOption) (row24 d b) (recordCount b) (λ i. refl) (omega arith)
+    then record-low (Positions FailNonSecurity) (row25 d b) (recordCount b) (λ i. refl) (omega arith)
+    then record-low (Positions DvpNonSecurity) (row26 d b) (recordCount b) (λ i. refl) (omega arith)
+    then tt)
+    then tt)
 
 verdict-low : (d b : List ℕ) → Low (verdict d b)
 unfolding verdict nettingCheck
 verdict-low d b =
-    either _ _ (day-low d) (either _ _ (batch-low d b) (record-low (Netting NetTooLarge) (row30 d b) (recordCount b) (λ i. refl) (omega arith)))
+    all-low _ (day-low d then batch-low d b then record-low (Netting NetTooLarge) (row30 d b) (recordCount b) (λ i. refl) (omega arith) then tt)
 
 room-low : (n room : ℕ) → n < 2 ^ 32 → valueOf (roomAnswer n room) < 2 ^ 32
 room-low n room h = by (leb n room)
@@ -107,4 +121,4 @@ value-small d b room =
 pub byte-value-small : (day batch : List ℕ) (room : ℕ) → valueOf (byteAnswer day batch room) < 2 ^ 32
 unfolding byteAnswer bytesCheck
 byte-value-small day batch room =
-    answer-low (bytesCheck day batch) (answer (wordsOf day) (wordsOf batch) (room / 4)) (either _ _ (plain-low (Bytes DayFile) (row1 day) refl) (plain-low (Bytes BatchFile) (row2 batch) refl)) (value-small (wordsOf day) (wordsOf batch) (room / 4))
+    answer-low (bytesCheck day batch) (answer (wordsOf day) (wordsOf batch) (room / 4)) (all-low _ (plain-low (Bytes DayFile) (row1 day) refl then plain-low (Bytes BatchFile) (row2 batch) refl then tt)) (value-small (wordsOf day) (wordsOf batch) (room / 4))

@@ -3,6 +3,7 @@ use mathlib.Core.Path.{_≡_, refl}
 use mathlib.Core.Bool.{true, cond}
 use mathlib.Core.List.{List}
 use Prim.Native.Nat.{ℕ, _*_, _≤_, _<_}
+use native.Mathlib.Nat.{le-refl, le-trans, mul-le-mul}
 use native.Mathlib.Omega.{arith}
 use borrow.Author.Tests.{eqb-true}
 use lib.Dec.{eqb}
@@ -16,7 +17,7 @@ use Rattle.numbers.specs.Budget.{sumN, sumNWhere, sumN-ones, sumN-at, bound-whe
 use Rattle.numbers.specs.Table.{getD-tabulate}
 use Rattle.model.specs.DayFile.{seriesCount, multiplier}
 use Rattle.model.specs.Batch.{recordCount, key, place, long, short, dvpAmount}
-use Rattle.model.specs.Netting.{position, net, dvp}
+use Rattle.model.specs.Netting.{position, net, dvp, positionCount}
 use Rattle.model.proofs.Accepted.{DayRows, BatchRows}
 use Rattle.model.proofs.Nets.{key-place, few-series}
 use Rattle.model.proofs.Limits.{few-records, dvp-limit, net-limit}
@@ -25,9 +26,9 @@ use Rattle.model.proofs.Whole.{tabled}
 -- at most 256 records in all; a net (row 30) and a DVP (row 22) are within the limits of the records of their position
 pub record Budget (d : List ℕ) (n v : ℕ → ℤ) : Type 0 where
   pub records : ℕ → ℕ
-  pub few : sumN 1024 records ≤ mostRecords
+  pub few : sumN positionCount records ≤ mostRecords
   pub netLimit : (k x s : ℕ) → s < seriesCount d → x < 2 → k < 2 → natAbs (n (position k x s)) * multiplier d s ≤ positionLimit * records (position k x s)
-  pub dvpLimit : (p : ℕ) → p < 1024 → natAbs (v p) ≤ dvpAmountLimit * records p
+  pub dvpLimit : (p : ℕ) → p < positionCount → natAbs (v p) ≤ dvpAmountLimit * records p
 
 module _ (d b : List ℕ) (days : DayRows d) (recs : BatchRows d b) where
   abbrev count : ℕ → ℕ
@@ -65,10 +66,20 @@ module _ (d b : List ℕ) (days : DayRows d) (recs : BatchRows d b) where
       record {
         records = count;
         few =
-            omega (arith, parts-le 1024 (recordCount b) (λ r. true) (key b) (λ p. p) (λ r. 1) (λ i j e. e), sumN-ones (recordCount b), few-records d b (recs .checks));
+            omega (arith, parts-le positionCount (recordCount b) (λ r. true) (key b) (λ p. p) (λ r. 1) (λ i j e. e), sumN-ones (recordCount b), few-records d b (recs .checks));
         netLimit = λ k x s hs hx hk. net-bound k x s hs hx;
         dvpLimit = λ p h. dvp-bound p;
       }
+
+-- nets that are no larger are within it too
+pub budget-less : (d : List ℕ) (n u v : ℕ → ℤ) → ((p : ℕ) → natAbs (u p) ≤ natAbs (n p)) → Budget d n v → Budget d u v
+budget-less d n u v h w =
+    record {
+      records = w .records;
+      few = w .few;
+      netLimit = λ k x s hs hx hk. le-trans (mul-le-mul (h (position k x s)) (le-refl (multiplier d s))) (w .netLimit k x s hs hx hk);
+      dvpLimit = w .dvpLimit;
+    }
 
 -- so are the tables of its positions
 pub table-budget : (d : List ℕ) (n v : ℕ → ℤ) → DayRows d → Budget d n v → Budget d (tabled n) (tabled v)
@@ -77,6 +88,6 @@ table-budget d n v days w =
     record {
       records = w .records;
       few = w .few;
-      netLimit = λ k x s hs hx hk. rw (getD-tabulate 1024 n (position k x s) (pos 0) (omega arith)) (w .netLimit k x s hs hx hk);
-      dvpLimit = λ p h. rw (getD-tabulate 1024 v p (pos 0) h) (w .dvpLimit p h);
+      netLimit = λ k x s hs hx hk. rw (getD-tabulate positionCount n (position k x s) (pos 0) (omega arith)) (w .netLimit k x s hs hx hk);
+      dvpLimit = λ p h. rw (getD-tabulate positionCount v p (pos 0) h) (w .dvpLimit p h);
     }

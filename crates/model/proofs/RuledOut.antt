@@ -19,6 +19,7 @@ use Rattle.model.specs.Accounts.{batchFile, positionRecord, minus}
 use Rattle.model.specs.Figures.{share, large, largeHeld}
 use Rattle.model.specs.Mistakes.{twoRecords}
 use Rattle.model.proofs.TwoGroups.{day, before, removed, memory, before-accepted, removed-accepted, before-room, removed-room}
+use Rattle.model.specs.Report.{wordsALine}
 
 -- a program: its answer, by the length of the report memory, and the memory that it leaves
 pub record Program : Type 0 where
@@ -49,7 +50,7 @@ firstRecord b = batchFile 1 (take 6 (drop 1 b))
 
 -- the words of the six amounts of line i
 abbrev pub amountsOfLine : List ℕ → ℕ → List ℕ
-amountsOfLine w i = take 18 (drop (4 + 19 * i) w)
+amountsOfLine w i = take 18 (drop (4 + wordsALine * i) w)
 
 -- ---- the accounts: three lines; two lines; M3's share in two records, one line; M8's net of 1,001
 

@@ -1,7 +1,7 @@
 -- What is printed for a call, read back: the answer's number, a refusal's place, a report's line count and totals.
 use mathlib.Core.Path.{_≡_, refl, sym, ap, _∙_}
 use mathlib.Core.Bool.{Bool, true, false, not, _||_}
-use mathlib.Core.List.{List, _++_}
+use mathlib.Core.List.{List, [], _∷_, _++_}
 use Prim.Native.Nat.{ℕ, _≤_}
 use native.Mathlib.Omega.{arith}
 use lib.ListN.{length, drop, replicate, length-replicate}
@@ -14,10 +14,10 @@ use Rattle.model.specs.declared.TextSays.{TextSays}
 use Rattle.model.specs.declared.TextSays.the-variants.{Refusal}
 use Rattle.model.specs.Answers.{numberOf, placeOf, statusOf, valueOf}
 use Rattle.model.specs.Netting.{net, dvp}
-use Rattle.model.specs.Report.{lineCount}
+use Rattle.model.specs.Report.{lineCount, longestReport}
 use Rattle.model.specs.Calls.{Accepted, answer, answerOf, needed, report, memoryAfter}
 use Rattle.model.specs.Bytes.{wordsOf, row1, row2}
-use Rattle.model.specs.Rows.{_orElse_, plainRow}
+use Rattle.model.specs.Rows.{tried, plainRow}
 use Rattle.model.specs.Printed.{printed, filesCheck, programText}
 use Rattle.model.specs.TextReading.{textSays, reportSays, answerSays, textNumber, textValue}
 use Rattle.model.proofs.Places.{value-small}
@@ -38,7 +38,7 @@ pub record TextReadBack (d b m : List ℕ) : Type 0 where
   pub place : (k : Check) → answer d b (length m) ≡ Refused k → textValue (printedSays d b m) ≡ valueOf (answer d b (length m))
   -- the line count and the totals of a report are those of the steps
   pub totals : Accepted d b → needed d b ≤ length m → printedSays d b m
-      ≡ TextSays.Report (record { lines = lineCount d (net b) (dvp b); ordinary = totalOf d (net b) (dvp b) 0; fail = totalOf d (net b) (dvp b) 1; account = totalOf d (net b) (dvp b) 2 })
+      ≡ TextSays.Report (record { lines = lineCount d (net b) (dvp b); ordinary = totalOf d (net b) (net b) (dvp b) 0; fail = totalOf d (net b) (net b) (dvp b) 1; account = totalOf d (net b) (net b) (dvp b) 2 })
 
 number-of : (a : Answer) (w : List ℕ) → textNumber (answerSays a w) ≡ statusOf a
 number-of (Report n) w = refl
@@ -51,14 +51,14 @@ module _ (d b m : List ℕ) where
   says-report : (n : ℕ) → answer d b (length m) ≡ Report n → printedSays d b m ≡ reportSays (memoryAfter d b m)
   unfolding memoryAfter
   says-report n e =
-      rw e (report-read-back n (report d b ++ drop n m) (omega (arith, count-read d (net b) (dvp b) (drop n m), count-small d (net b) (dvp b))))
+      rw e (report-read-back n (report d b ++ drop n m) (omega (arith, count-read d (net b) (net b) (dvp b) (drop n m), count-small d (net b) (dvp b))))
 
   says-answer : (a : Answer) → answer d b (length m) ≡ a → printedSays d b m ≡ answerSays a (memoryAfter d b m)
   says-answer (Report n) e = says-report n e
   says-answer (Refused k) e = says-refusal k e
 
   says-steps : Accepted d b → needed d b ≤ length m → printedSays d b m
-      ≡ TextSays.Report (record { lines = lineCount d (net b) (dvp b); ordinary = totalOf d (net b) (dvp b) 0; fail = totalOf d (net b) (dvp b) 1; account = totalOf d (net b) (dvp b) 2 })
+      ≡ TextSays.Report (record { lines = lineCount d (net b) (dvp b); ordinary = totalOf d (net b) (net b) (dvp b) 0; fail = totalOf d (net b) (net b) (dvp b) 1; account = totalOf d (net b) (net b) (dvp b) 2 })
   says-steps a h =
       let w = readable d b m a h in
       says-report (needed d b) (accepted-writes d b m a h .says)
@@ -81,17 +81,18 @@ module _ (d b m : List ℕ) where
 -- every text of the program says what the answer and its memory say
 module _ (dayOpened : Bool) (day : List ℕ) (batchOpened : Bool) (batch : List ℕ) where
   abbrev a : Answer
-  a = answer (wordsOf day) (wordsOf batch) 1115
+  a = answer (wordsOf day) (wordsOf batch) longestReport
 
   abbrev m : List ℕ
-  m = memoryAfter (wordsOf day) (wordsOf batch) (replicate 1115 0)
+  m = memoryAfter (wordsOf day) (wordsOf batch) (replicate longestReport 0)
 
-  by-files : (p q : Bool) → textSays (printed (answerOf (plainRow (Bytes DayFile) p orElse plainRow (Bytes BatchFile) q) a) m) ≡ answerSays (answerOf (plainRow (Bytes DayFile) p orElse plainRow (Bytes BatchFile) q) a) m
+  by-files : (p q : Bool) → textSays (printed (answerOf (tried (plainRow (Bytes DayFile) p ∷ plainRow (Bytes BatchFile) q ∷ [])) a) m) ≡ answerSays (answerOf (tried (plainRow (Bytes DayFile) p ∷ plainRow (Bytes BatchFile) q ∷ [])) a) m
+  unfolding tried
   by-files true q = refusal-read-back (Bytes DayFile 0) m (omega arith)
   by-files false true = refusal-read-back (Bytes BatchFile 0) m (omega arith)
-  by-files false false = rw (length-replicate {A = ℕ} 1115 0) at (text-read-back (wordsOf day) (wordsOf batch) (replicate 1115 0) .says)
+  by-files false false = rw (length-replicate {A = ℕ} longestReport 0) at (text-read-back (wordsOf day) (wordsOf batch) (replicate longestReport 0) .says)
 
   pub program-text-says : textSays (programText dayOpened day batchOpened batch)
-      ≡ answerSays (answerOf (filesCheck dayOpened day batchOpened batch) (answer (wordsOf day) (wordsOf batch) 1115)) (memoryAfter (wordsOf day) (wordsOf batch) (replicate 1115 0))
+      ≡ answerSays (answerOf (filesCheck dayOpened day batchOpened batch) (answer (wordsOf day) (wordsOf batch) longestReport)) (memoryAfter (wordsOf day) (wordsOf batch) (replicate longestReport 0))
   unfolding programText filesCheck
   program-text-says = by-files (not dayOpened || row1 day) (not batchOpened || row2 batch)

@@ -13,6 +13,7 @@ use Rattle.model.specs.Words.{payload, bits}
 use Rattle.model.specs.Reading.{amountIn}
 use Rattle.model.specs.Printed.{digits, decimal, signedDecimal, numberField, amountFields, failHead, ordinaryHead, lineText, linesText}
 use Rattle.model.specs.TextReading.{lineBytes, linesBytes}
+use Rattle.model.specs.Report.{wordsALine}
 
 -- no newline in a
 abbrev OneLine : List ℕ → Type 0
@@ -75,6 +76,6 @@ unfolding linesText linesBytes
 lines-bytes w zero r = refl
 lines-bytes w (suc n) r =
     let l = linesText w n in
-    let t = lineText w (3 + 19 * n) in
+    let t = lineText w (3 + wordsALine * n) in
     let e : linesBytes (l ++ (t ++ r)) n ≡ length l = lines-bytes w n (t ++ r) in
-    rw (append-assoc, e, drop-at l (t ++ r) (length l) refl, line-bytes w (3 + 19 * n) r) (sym (length-append l t))
+    rw (append-assoc, e, drop-at l (t ++ r) (length l) refl, line-bytes w (3 + wordsALine * n) r) (sym (length-append l t))

@@ -16,10 +16,11 @@ use Rattle.model.specs.declared.AmountRead.the-variants.{Amount, NoAmoun
 use Rattle.model.specs.Printed.{refusedHead, marginHead, totalHead}
 use Rattle.model.specs.TextReading.{begins, ended, fieldRead, amountRead, linesBytes, withNumber, withAmount, refusalOf, placeRead, refusalRead, accountRead, failRead, totalsRead, lastRead, linesRead, countRead, reportRead, textSays}
 use Rattle.numbers.specs.Tests.{and-left, and-right}
+use Rattle.model.specs.Limits.{mostLines}
 
 -- the line count of a report, and the two numbers of a refusal
 abbrev pub Told : TextSays → Type 0
-Told (TextSays.Report s) = s .lines ≤ 58
+Told (TextSays.Report s) = s .lines ≤ mostLines
 Told (Refusal number place) = (0 < number) × (number < 2 ^ 32 - 1) × (place < 2 ^ 32)
 Told Unreadable = Unit
 
@@ -52,7 +53,7 @@ unfolding refusalRead placeRead
 refusal-told t =
     number-told (fieldRead t) _ (λ number k. number-told (fieldRead (drop k t)) _ (λ place j. refusal-of-told number place (ended (drop j (drop k t)))))
 
-totals-told : (n : ℕ) (t : List ℕ) → n ≤ 58 → Told (totalsRead n t)
+totals-told : (n : ℕ) (t : List ℕ) → n ≤ mostLines → Told (totalsRead n t)
 unfolding totalsRead failRead accountRead
 totals-told n t h =
     amount-told (amountRead t) _
@@ -64,8 +65,8 @@ count-told : (n : ℕ) (t : List ℕ) → Told (countRead n t)
 unfolding countRead linesRead lastRead
 count-told n t =
     let r = drop (linesBytes (drop 1 t) n) (drop 1 t) in
-    either (leb n 58 && begins (10 ∷ []) t) _ Unreadable
-    (λ e. either (begins totalHead r) _ Unreadable (λ _. totals-told n (drop 5 r) (leb-true n 58 (and-left (leb n 58) (begins (10 ∷ []) t) e))) tt)
+    either (leb n mostLines && begins (10 ∷ []) t) _ Unreadable
+    (λ e. either (begins totalHead r) _ Unreadable (λ _. totals-told n (drop 5 r) (leb-true n mostLines (and-left (leb n mostLines) (begins (10 ∷ []) t) e))) tt)
     tt
 
 pub text-told : (t : List ℕ) → Told (textSays t)

@@ -23,6 +23,8 @@ use Rattle.model.specs.Printed.{decimal, signedDecimal, numberField, amo
 use Rattle.model.specs.TextReading.{placeRead, refusalRead, accountRead, failRead, totalsRead, lastRead, linesRead, countRead, reportRead, textSays, reportSays}
 use Rattle.model.proofs.TextFields.{field-back, amount-back, behind-field}
 use Rattle.model.proofs.TextLines.{lines-bytes}
+use Rattle.model.specs.Limits.{mostLines}
+use Rattle.model.specs.Report.{wordsALine}
 
 totals-back : (n : ℕ) (x y z : ℤ) → natAbs x < 2 ^ 63 → natAbs y < 2 ^ 63 → natAbs z < 2 ^ 63
     → totalsRead n ((32 ∷ signedDecimal x) ++ ((32 ∷ signedDecimal y) ++ ((32 ∷ signedDecimal z) ++ (10 ∷ [])))) ≡ TextSays.Report (record { lines = n; ordinary = x; fail = y; account = z })
@@ -59,9 +61,9 @@ refusal-back number place h l p =
     ap (λ (t : List ℕ). refusalRead (32 ∷ t)) (append-assoc (decimal number) (numberField place) (10 ∷ [])) ∙ numbers-back number place h l p
 
 -- the amount that stands at a total
-total-at : (w : List ℕ) (i : ℕ) → amountIn w (4 + 19 * countIn w + 3 * i) ≡ amountIn (totalIn w i) 0
+total-at : (w : List ℕ) (i : ℕ) → amountIn w (4 + wordsALine * countIn w + 3 * i) ≡ amountIn (totalIn w i) 0
 total-at w i =
-    let k = 4 + 19 * countIn w + 3 * i in
+    let k = 4 + wordsALine * countIn w + 3 * i in
     let e : k + 0 ≡ k = omega arith in
     rw (getD-take 3 (drop k w) 0 0 (omega arith), getD-take 3 (drop k w) 1 0 (omega arith), getD-take 3 (drop k w) 2 0 (omega arith), getD-drop k w 0 0, getD-drop k w 1 0, getD-drop k w 2 0, e)
 
@@ -77,17 +79,17 @@ lines-back : (w : List ℕ) (n : ℕ) (r : List ℕ) → linesRead n (linesText 
 unfolding linesRead lastRead
 lines-back w n r = rw (lines-bytes w n (totalHead ++ r), drop-at (linesText w n) (totalHead ++ r) (length (linesText w n)) refl)
 
-count-back : (n : ℕ) (r : List ℕ) → n ≤ 58 → textSays (countText n ++ r) ≡ linesRead n r
+count-back : (n : ℕ) (r : List ℕ) → n ≤ mostLines → textSays (countText n ++ r) ≡ linesRead n r
 unfolding textSays countText reportRead countRead
 count-back n r h =
     ap (λ (t : List ℕ). reportRead (32 ∷ t)) (append-assoc (decimal n) (10 ∷ []) r)
-    ∙ rw (field-back 10 refl r n (omega arith), behind-field (decimal n) (10 ∷ r), le-leb n 58 h)
+    ∙ rw (field-back 10 refl r n (omega arith), behind-field (decimal n) (10 ∷ r), le-leb n mostLines h)
 
-report-back : (w : List ℕ) → countIn w ≤ 58 → textSays (reportText w) ≡ reportSays w
+report-back : (w : List ℕ) → countIn w ≤ mostLines → textSays (reportText w) ≡ reportSays w
 unfolding reportText
 report-back w h =
     let n = countIn w in
-    let i = 4 + 19 * n in
+    let i = 4 + wordsALine * n in
     rw (append-assoc, count-back n (linesText w n ++ totalsText w i) h, totals-text w i)
     (lines-back w n _
     ∙ totals-back n (amountIn w (i + 3 * 0)) (amountIn w (i + 3 * 1)) (amountIn w (i + 3 * 2)) (small w (i + 3 * 0)) (small w (i + 3 * 1)) (small w (i + 3 * 2))
@@ -120,5 +122,5 @@ numbered (Check.Report f p) = (omega arith, omega arith)
 pub refusal-read-back : (k : Check) (w : List ℕ) → placeOf k < 2 ^ 32 → textSays (printed (Answer.Refused k) w) ≡ Refusal (numberOf k) (placeOf k)
 refusal-read-back k w h = refusal-back (numberOf k) (placeOf k) (numbered k .0) (omega (arith, numbered k .1)) h
 
-pub report-read-back : (n : ℕ) (w : List ℕ) → countIn w ≤ 58 → textSays (printed (Answer.Report n) w) ≡ reportSays w
+pub report-read-back : (n : ℕ) (w : List ℕ) → countIn w ≤ mostLines → textSays (printed (Answer.Report n) w) ≡ reportSays w
 report-read-back n w h = report-back w h

@@ -12,18 +12,20 @@ use Rattle.numbers.specs.Line.{line, add-line}
 use Rattle.numbers.specs.Sums.{sumTo, sumTo-ext}
 use Rattle.model.specs.Netting.{net, dvp}
 use Rattle.model.specs.Steps.{hasLine, groupSum, margin, total}
-use Rattle.model.specs.Calls.{Accepted, needed, report, memoryAfter}
+use Rattle.model.specs.Calls.{Accepted, needed, memoryAfter}
+use Rattle.model.specs.Report.{reportWords}
 use Rattle.model.specs.Reading.{totalIn, amountIn, marginIn}
 use Rattle.model.proofs.Read.{margin-read, total-read, adds}
-use Rattle.model.proofs.Edits.{memory-is}
-use Rattle.model.proofs.Demand.{accepted-small}
+use Rattle.model.proofs.Outcome.{memory-is}
+use Rattle.model.proofs.SmallReport.{SmallReport, accepted-small}
+use Rattle.model.specs.Limits.{groupCount}
 
 -- w is a report whose totals, ordinary, fail and account, are these sums; a group without a line counts as 0
 pub record Totals (w : List ℕ) : Type 0 where
-  pub ordinary : amountIn (totalIn w 0) 0 ≡ sumTo 29 (marginIn w 0)
-  pub fail : amountIn (totalIn w 1) 0 ≡ sumTo 29 (marginIn w 1)
+  pub ordinary : amountIn (totalIn w 0) 0 ≡ sumTo groupCount (marginIn w 0)
+  pub fail : amountIn (totalIn w 1) 0 ≡ sumTo groupCount (marginIn w 1)
   pub account : amountIn (totalIn w 2) 0 ≡ amountIn (totalIn w 0) 0 +ℤ amountIn (totalIn w 1) 0
-  pub margins-debit : (k g : ℕ) → k < 2 → g < 29 → pos 0 ≤ℤ marginIn w k g
+  pub margins-debit : (k g : ℕ) → k < 2 → g < groupCount → pos 0 ≤ℤ marginIn w k g
   pub totals-debit : (i : ℕ) → i < 3 → pos 0 ≤ℤ amountIn (totalIn w i) 0
 
 sum-debit : (n : ℕ) (f : ℕ → ℤ) → ((i : ℕ) → i < n → pos 0 ≤ℤ f i) → pos 0 ≤ℤ sumTo n f
@@ -35,32 +37,33 @@ cond-debit : (b : Bool) (z : ℤ) → pos 0 ≤ℤ z → pos 0 ≤ℤ cond b z (
 cond-debit true z h = h
 cond-debit false z h = omega line
 
-module _ (d b : List ℕ) (a : Accepted d b) (rest : List ℕ) where
+-- n are the nets by which a group has a line, u those of its amounts
+module _ (d : List ℕ) (n u v : ℕ → ℤ) (s : SmallReport d n u v) (rest : List ℕ) where
   abbrev w : List ℕ
-  w = report d b ++ rest
+  w = reportWords d n u v ++ rest
 
-  margin-is : (k g : ℕ) → k < 2 → g < 29 → marginIn w k g ≡ adds d (net b) (dvp b) k g
-  margin-is k g hk hg = margin-read d (net b) (dvp b) rest k g hk hg (accepted-small d b a .margins k g hk hg)
+  margin-is : (k g : ℕ) → k < 2 → g < groupCount → marginIn w k g ≡ adds d n u v k g
+  margin-is k g hk hg = margin-read d n u v rest k g hk hg (s .margins k g hk hg)
 
-  adds-debit : (k g : ℕ) → pos 0 ≤ℤ adds d (net b) (dvp b) k g
+  adds-debit : (k g : ℕ) → pos 0 ≤ℤ adds d n u v k g
   unfolding margin
   adds-debit k g =
-      cond-debit (hasLine d (net b) (dvp b) k g) (margin d (net b) (dvp b) k g)
-      (rw (max-zero (groupSum d (net b) (dvp b) k g)) (omega line))
+      cond-debit (hasLine d n v k g) (margin d u v k g)
+      (rw (max-zero (groupSum d u v k g)) (omega line))
 
-  book-is : (k : ℕ) → k < 2 → total d (net b) (dvp b) k ≡ sumTo 29 (marginIn w k)
+  book-is : (k : ℕ) → k < 2 → total d n u v k ≡ sumTo groupCount (marginIn w k)
   unfolding total
-  book-is k h = sumTo-ext 29 (adds d (net b) (dvp b) k) (marginIn w k) (λ g p. sym (margin-is k g h p))
+  book-is k h = sumTo-ext groupCount (adds d n u v k) (marginIn w k) (λ g p. sym (margin-is k g h p))
 
-  book-debit : (k : ℕ) → pos 0 ≤ℤ total d (net b) (dvp b) k
+  book-debit : (k : ℕ) → pos 0 ≤ℤ total d n u v k
   unfolding total
-  book-debit k = sum-debit 29 (adds d (net b) (dvp b) k) (λ g p. adds-debit k g)
+  book-debit k = sum-debit groupCount (adds d n u v k) (λ g p. adds-debit k g)
 
-  totals-words : Totals w
+  pub totals-words : Totals w
   totals-words =
-      let t0 = total-read d (net b) (dvp b) rest 0 (omega arith) (accepted-small d b a .totals 0 (omega arith)) in
-      let t1 = total-read d (net b) (dvp b) rest 1 (omega arith) (accepted-small d b a .totals 1 (omega arith)) in
-      let t2 = total-read d (net b) (dvp b) rest 2 (omega arith) (accepted-small d b a .totals 2 (omega arith)) in
+      let t0 = total-read d n u v rest 0 (omega arith) (s .totals 0 (omega arith)) in
+      let t1 = total-read d n u v rest 1 (omega arith) (s .totals 1 (omega arith)) in
+      let t2 = total-read d n u v rest 2 (omega arith) (s .totals 2 (omega arith)) in
       record {
         ordinary = t0 ∙ book-is 0 (omega arith);
         fail = t1 ∙ book-is 1 (omega arith);
@@ -70,15 +73,15 @@ module _ (d b : List ℕ) (a : Accepted d b) (rest : List ℕ) where
       }
     where
       by : (i : ℕ) → i < 3
-          → amountIn (totalIn w 0) 0 ≡ total d (net b) (dvp b) 0 → amountIn (totalIn w 1) 0 ≡ total d (net b) (dvp b) 1
-          → amountIn (totalIn w 2) 0 ≡ total d (net b) (dvp b) 0 +ℤ total d (net b) (dvp b) 1
+          → amountIn (totalIn w 0) 0 ≡ total d n u v 0 → amountIn (totalIn w 1) 0 ≡ total d n u v 1
+          → amountIn (totalIn w 2) 0 ≡ total d n u v 0 +ℤ total d n u v 1
           → pos 0 ≤ℤ amountIn (totalIn w i) 0
       by zero h p q r = subst (λ (z : ℤ). pos 0 ≤ℤ z) (sym p) (book-debit 0)
       by (suc zero) h p q r = subst (λ (z : ℤ). pos 0 ≤ℤ z) (sym q) (book-debit 1)
       by (suc (suc zero)) h p q r =
           subst (λ (z : ℤ). pos 0 ≤ℤ z) (sym r)
-          (omega (line, add-line (total d (net b) (dvp b) 0) (total d (net b) (dvp b) 1), book-debit 0, book-debit 1))
+          (omega (line, add-line (total d n u v 0) (total d n u v 1), book-debit 0, book-debit 1))
       by (suc (suc (suc i))) h p q r = absurd (omega arith)
 
 pub totals-are-margins : (d b m : List ℕ) → Accepted d b → needed d b ≤ length m → Totals (memoryAfter d b m)
-totals-are-margins d b m a h = rw (memory-is d b m a h) (totals-words d b a (drop (needed d b) m))
+totals-are-margins d b m a h = rw (memory-is d b m a h) (totals-words d (net b) (net b) (dvp b) (accepted-small d b a) (drop (needed d b) m))

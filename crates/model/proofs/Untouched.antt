@@ -17,10 +17,11 @@ use Rattle.model.specs.Netting.{net, dvp}
 use Rattle.model.specs.Calls.{verdict, answer, answerOf, roomAnswer, needed, report, memoryAfter, written}
 use Rattle.model.specs.Bytes.{wordsOf, bytesOf, bytesCheck, byteAnswer, bytesAfter, writtenBytes}
 use Rattle.model.proofs.Length.{report-length}
+use Rattle.model.proofs.Outcome.{leaves-length, leaves-all}
 
 pub refused-writes-nothing : (d b m : List ℕ) (k : Check) → answer d b (length m) ≡ Refused k → memoryAfter d b m ≡ m
 unfolding memoryAfter
-refused-writes-nothing d b m k e = ap (λ (a : Answer). written a (report d b) m) e
+refused-writes-nothing d b m k e = leaves-all (answer d b (length m)) k (report d b) m e
 
 pub bytes-refused-writes-nothing : (day b m : List ℕ) (k : Check) → byteAnswer day b (length m) ≡ Refused k → bytesAfter day b m ≡ m
 unfolding bytesAfter
@@ -30,18 +31,9 @@ bytes-refused-writes-nothing day b m k e = ap (λ (a : Answer). writtenBytes a (
 over : (w m : List ℕ) (n : ℕ) → length w ≡ n → n ≤ length m → length (w ++ drop n m) ≡ length m
 over w m n e h = omega (arith, length-append w (drop n m), length-drop n m)
 
--- an answer to a report of n words, with room or without
-kept : (v : Verdict) (n : ℕ) (w m : List ℕ) → length w ≡ n → length (written (answerOf v (roomAnswer n (length m))) w m) ≡ length m
-kept Passed n w m e = by (leb n (length m)) refl
-  where
-    by : (t : Bool) → leb n (length m) ≡ t → length (written (cond t (Report n) (Refused (Check.Report TooShort n))) w m) ≡ length m
-    by true q = over w m n e (leb-true n (length m) q)
-    by false q = refl
-kept (Failed k) n w m e = refl
-
 pub length-kept : (d b m : List ℕ) → length (memoryAfter d b m) ≡ length m
 unfolding memoryAfter answer
-length-kept d b m = kept (verdict d b) (needed d b) (report d b) m (report-length d (net b) (dvp b))
+length-kept d b m = leaves-length (verdict d b) (needed d b) (report d b) m (report-length d (net b) (net b) (dvp b))
 
 -- ---- the byte call
 
@@ -64,4 +56,4 @@ pub bytes-length-kept : (day b m : List ℕ) → length (bytesAfter day b m) ≡
 unfolding bytesAfter byteAnswer answer
 bytes-length-kept day b m =
     bytes-kept (bytesCheck day b) (verdict (wordsOf day) (wordsOf b)) (needed (wordsOf day) (wordsOf b)) (report (wordsOf day) (wordsOf b)) m
-    (report-length (wordsOf day) (net (wordsOf b)) (dvp (wordsOf b)))
+    (report-length (wordsOf day) (net (wordsOf b)) (net (wordsOf b)) (dvp (wordsOf b)))

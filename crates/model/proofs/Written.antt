@@ -12,13 +12,15 @@ use Rattle.model.specs.declared.Answer.the-variants.{Report}
 use Rattle.model.specs.Words.{word}
 use Rattle.model.specs.Netting.{net, dvp}
 use Rattle.model.specs.Steps.{hasLine}
-use Rattle.model.specs.Report.{wordsOfAmounts, lineWords, lineCount, totals, wordsNeeded}
-use Rattle.model.specs.Calls.{Accepted, answer, needed, report, memoryAfter}
+use Rattle.model.specs.Report.{wordsOfAmounts, lineWords, lineCount, totals, wordsNeeded, wordsALine, wordsFor, reportWords}
+use Rattle.model.specs.Calls.{verdict, Accepted, answer, needed, report, memoryAfter}
 use Rattle.model.specs.Reading.{countIn, mapIn, standsIn, lineIn}
 use Rattle.model.proofs.Length.{nine-words}
 use Rattle.model.proofs.Read.{count-read, map-read, stands-read, line-read}
 use Rattle.model.proofs.Counted.{joined, Each, chosen, bookBlocks, lineBlocks, blocks-are-lines, blocks-each, ones-are-blocks}
-use Rattle.model.proofs.Edits.{memory-is}
+use Rattle.model.proofs.Outcome.{outcome-passed, memory-is}
+use Rattle.model.specs.Limits.{groupCount}
+use lib.IntN.{ℤ}
 
 -- every block of a list is so
 pub data All (P : List ℕ → Type 0) : List (List ℕ) → Type 0 where
@@ -42,7 +44,7 @@ all-chosen t L (suc n) h = all-append (all-chosen t L n (λ i p. h i (omega arit
 pub record LineOf (w block : List ℕ) : Type 0 where
   pub group : ℕ
   pub book : ℕ
-  pub group-below : group < 29
+  pub group-below : group < groupCount
   pub book-below : book < 2
   pub stands : standsIn w book group ≡ 1
   pub words : block ≡ lineIn w book group
@@ -54,70 +56,69 @@ pub record Layout (n : ℕ) (w m : List ℕ) : Type 0 where
   pub lines : List (List ℕ)
   pub amounts : List ℕ
   -- 13 words and 19 for each line that the header counts
-  pub long : n ≡ 13 + 19 * countIn w
+  pub long : n ≡ wordsFor (countIn w)
   -- the header's count is the number of ones in the two maps, and of the line blocks
   pub ones-counted : countIn w ≡ ones (mapIn w 0) + ones (mapIn w 1)
   pub lines-counted : countIn w ≡ length lines
-  pub each-nineteen : Each 19 lines
+  pub each-nineteen : Each wordsALine lines
   pub nine : length amounts ≡ 9
   -- header, two maps, the lines, a kind 7 word of payload 0, the totals, and the rest of the memory untouched
   pub whole : w ≡ word 1 (countIn w) ∷ word 4 (mapIn w 0) ∷ word 4 (mapIn w 1) ∷ (joined lines ++ ((word 7 0 ∷ amounts) ++ drop n m))
   -- each line is that of a group and book whose bit is set, and has their key; each set bit has such a line
   pub lines-mapped : All (LineOf w) lines
-  pub bits-keyed : (k g : ℕ) → k < 2 → g < 29 → standsIn w k g ≡ 1 → getD (lineIn w k g) 0 0 ≡ word 2 (g + 32 * k)
+  pub bits-keyed : (k g : ℕ) → k < 2 → g < groupCount → standsIn w k g ≡ 1 → getD (lineIn w k g) 0 0 ≡ word 2 (g + 32 * k)
 
-module _ (d b : List ℕ) where
-  answered : (room : ℕ) → Accepted d b → needed d b ≤ room → answer d b room ≡ Report (needed d b)
-  unfolding answer
-  answered room a h = rw (a, le-leb (needed d b) room h)
-
-  key-first : (k g : ℕ) → getD (lineWords d (net b) (dvp b) k g) 0 0 ≡ word 2 (g + 32 * k)
+-- n are the nets by which a group has a line, u those of its amounts
+module _ (d : List ℕ) (n u v : ℕ → ℤ) where
+  key-first : (k g : ℕ) → getD (lineWords d u v k g) 0 0 ≡ word 2 (g + 32 * k)
   unfolding lineWords
   key-first k g = refl
 
-  line-of : (rest : List ℕ) (k g : ℕ) → k < 2 → g < 29 → hasLine d (net b) (dvp b) k g ≡ true → LineOf (report d b ++ rest) (lineWords d (net b) (dvp b) k g)
+  line-of : (rest : List ℕ) (k g : ℕ) → k < 2 → g < groupCount → hasLine d n v k g ≡ true → LineOf (reportWords d n u v ++ rest) (lineWords d u v k g)
   line-of rest k g hk hg e =
       record {
         group = g;
         book = k;
         group-below = hg;
         book-below = hk;
-        stands = stands-read d (net b) (dvp b) rest k g hk hg ∙ ap bit e;
-        words = sym (line-read d (net b) (dvp b) rest k g hk hg e);
+        stands = stands-read d n u v rest k g hk hg ∙ ap bit e;
+        words = sym (line-read d n u v rest k g hk hg e);
         key = key-first k g;
       }
 
-  every-line : (rest : List ℕ) → All (LineOf (report d b ++ rest)) (lineBlocks d (net b) (dvp b))
+  every-line : (rest : List ℕ) → All (LineOf (reportWords d n u v ++ rest)) (lineBlocks d n u v)
   unfolding lineBlocks bookBlocks
   every-line rest =
-      all-append (all-chosen (hasLine d (net b) (dvp b) 0) (lineWords d (net b) (dvp b) 0) 29 (λ g p e. line-of rest 0 g (omega arith) p e))
-      (all-chosen (hasLine d (net b) (dvp b) 1) (lineWords d (net b) (dvp b) 1) 29 (λ g p e. line-of rest 1 g (omega arith) p e))
+      all-append (all-chosen (hasLine d n v 0) (lineWords d u v 0) groupCount (λ g p e. line-of rest 0 g (omega arith) p e))
+      (all-chosen (hasLine d n v 1) (lineWords d u v 1) groupCount (λ g p e. line-of rest 1 g (omega arith) p e))
 
-  laid : (m : List ℕ) → Layout (needed d b) (report d b ++ drop (needed d b) m) m
+  pub laid : (m : List ℕ) → Layout (wordsNeeded d n v) (reportWords d n u v ++ drop (wordsNeeded d n v) m) m
   unfolding wordsNeeded lineCount
   laid m =
-      let n = net b in
-      let v = dvp b in
-      let rest = drop (needed d b) m in
+      let rest = drop (wordsNeeded d n v) m in
       record {
-        lines = lineBlocks d n v;
-        amounts = wordsOfAmounts (totals d n v);
-        long = ap (λ (c : ℕ). 13 + 19 * c) (sym (count-read d n v rest));
-        ones-counted = count-read d n v rest ∙ sym (λ i. ones (map-read d n v rest 0 (omega arith) i) + ones (map-read d n v rest 1 (omega arith) i));
-        lines-counted = count-read d n v rest ∙ ones-are-blocks d n v;
-        each-nineteen = blocks-each d n v;
-        nine = nine-words d n v;
+        lines = lineBlocks d n u v;
+        amounts = wordsOfAmounts (totals d n u v);
+        long = ap wordsFor (sym (count-read d n u v rest));
+        ones-counted = count-read d n u v rest ∙ sym (λ i. ones (map-read d n u v rest 0 (omega arith) i) + ones (map-read d n u v rest 1 (omega arith) i));
+        lines-counted = count-read d n u v rest ∙ ones-are-blocks d n u v;
+        each-nineteen = blocks-each d n u v;
+        nine = nine-words d n u v;
         whole =
-            ap (λ (l : List ℕ). l ++ rest) (blocks-are-lines d n v)
-            ∙ (λ i. word 1 (sym (count-read d n v rest) i) ∷ word 4 (sym (map-read d n v rest 0 (omega arith)) i) ∷ word 4 (sym (map-read d n v rest 1 (omega arith)) i)
-            ∷ append-assoc (joined (lineBlocks d n v)) (word 7 0 ∷ wordsOfAmounts (totals d n v)) rest i);
+            ap (λ (l : List ℕ). l ++ rest) (blocks-are-lines d n u v)
+            ∙ (λ i. word 1 (sym (count-read d n u v rest) i) ∷ word 4 (sym (map-read d n u v rest 0 (omega arith)) i) ∷ word 4 (sym (map-read d n u v rest 1 (omega arith)) i)
+            ∷ append-assoc (joined (lineBlocks d n u v)) (word 7 0 ∷ wordsOfAmounts (totals d n u v)) rest i);
         lines-mapped = every-line rest;
         bits-keyed =
             λ k g hk hg e.
             ap (λ (l : List ℕ). getD l 0 0)
-            (line-read d n v rest k g hk hg (bit-one (hasLine d n v k g) (sym (stands-read d n v rest k g hk hg) ∙ e)))
+            (line-read d n u v rest k g hk hg (bit-one (hasLine d n v k g) (sym (stands-read d n u v rest k g hk hg) ∙ e)))
             ∙ key-first k g;
       }
+
+answered : (d b : List ℕ) (room : ℕ) → Accepted d b → needed d b ≤ room → answer d b room ≡ Report (needed d b)
+unfolding answer
+answered d b room a h = outcome-passed (verdict d b) (needed d b) room a h
 
 -- accepted, with room: the answer is a report of so many words, and the memory is laid out so
 pub record Written (d b m : List ℕ) : Type 0 where
@@ -125,4 +126,4 @@ pub record Written (d b m : List ℕ) : Type 0 where
   pub memory : Layout (needed d b) (memoryAfter d b m) m
 
 pub accepted-writes : (d b m : List ℕ) → Accepted d b → needed d b ≤ length m → Written d b m
-accepted-writes d b m a h = record { says = answered d b (length m) a h; memory = rw (memory-is d b m a h) (laid d b m) }
+accepted-writes d b m a h = record { says = answered d b (length m) a h; memory = rw (memory-is d b m a h) (laid d (net b) (net b) (dvp b) m) }

@@ -1,6 +1,6 @@
 -- Files written from their fields, and figures computed from them: what the worked examples are made of. Amounts are in ten-thousandths of a euro.
 use mathlib.Core.List.{List, [], _∷_, _++_, map}
-use Prim.Native.Nat.{ℕ, _+_, _*_, _^_}
+use Prim.Native.Nat.{ℕ, _+_, _*_, _/_, _^_}
 use lib.IntN.{ℤ, pos, negℤ}
 use lib.ListN.{replicate}
 use Rattle.model.specs.declared.Answer.{Answer}
@@ -9,6 +9,8 @@ use Rattle.model.specs.Answers.{statusOf, valueOf}
 use Rattle.model.specs.Netting.{net, dvp}
 use Rattle.model.specs.Steps.{lineAmounts, classPoint, groupPoint}
 use Rattle.model.specs.Calls.{answer}
+use Rattle.model.specs.Report.{longestReport}
+use Rattle.model.specs.Limits.{wholeOffset, pointCount}
 
 -- ---- a figure: what the definitions compute, and what is published
 
@@ -30,14 +32,18 @@ minus n = negℤ (pos n)
 
 -- one price at all ten points
 abbrev pub ten : ℕ → List ℕ
-ten p = replicate 10 p
+ten p = replicate pointCount p
 
 abbrev pub dayFile : ℕ → ℕ → List ℕ → List ℕ
 dayFile classes series records = word 1 (classes + 2 ^ 7 * series) ∷ records
 
--- group, class number; the eight prices and rates; offset; projected prices
+-- an offset in percent, as its word has it
+abbrev pub percent : ℕ → ℕ
+percent p = p * (wholeOffset / 100)
+
+-- group, class number; the eight prices and rates; offset in percent; projected prices
 abbrev pub classRecord : ℕ → ℕ → List ℕ → ℕ → List ℕ → List ℕ
-classRecord g n rates o projected = word 2 (g + 2 ^ 5 * n) ∷ (map (word 3) rates ++ word 4 o ∷ map (word 3) projected)
+classRecord g n rates o projected = word 2 (g + 2 ^ 5 * n) ∷ (map (word 3) rates ++ word 4 (percent o) ∷ map (word 3) projected)
 
 -- class number, type, expiry; multiplier; strike, closing and theoretical prices
 abbrev pub seriesRecord : ℕ → ℕ → ℕ → ℕ → List ℕ → List ℕ → List ℕ
@@ -78,7 +84,7 @@ module _ (d b : List ℕ) where
 
   -- the call's two numbers, with memory for the longest report; the first is 0 where the account is accepted
   abbrev pub answerNumbers : List ℤ
-  answerNumbers = numbersOf (answer d b 1115)
+  answerNumbers = numbersOf (answer d b longestReport)
 
   abbrev pub status : ℤ
-  status = pos (statusOf (answer d b 1115))
+  status = pos (statusOf (answer d b longestReport))

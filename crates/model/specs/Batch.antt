@@ -11,8 +11,15 @@ batchHeader b = getD b 0 0
 abbrev pub recordCount : List ℕ → ℕ
 recordCount b = payload (batchHeader b)
 
+-- the words of a record, and of a batch of r records, behind which record r stands
+abbrev pub recordWords : ℕ
+recordWords = 6
+
+abbrev pub batchWords : ℕ → ℕ
+batchWords r = 1 + recordWords * r
+
 abbrev pub recordWord : List ℕ → ℕ → ℕ → ℕ
-recordWord b r i = getD b (1 + 6 * r + i) 0
+recordWord b r i = getD b (batchWords r + i) 0
 
 -- the key's ten bits name the position: series, bit 8 and bit 9
 abbrev pub key : List ℕ → ℕ → ℕ

@@ -1,7 +1,7 @@
 -- The call over words: its answer and the report memory afterwards, for every day file d, batch b and memory m.
 use mathlib.Core.Path.{_≡_}
 use mathlib.Core.Bool.{cond}
-use mathlib.Core.List.{List, _++_}
+use mathlib.Core.List.{List, [], _∷_, _++_}
 use Prim.Native.Nat.{ℕ}
 use lib.Dec.{leb}
 use lib.ListN.{length, drop}
@@ -11,7 +11,7 @@ use Rattle.model.specs.declared.Check.{Check}
 use Rattle.model.specs.declared.ReportFault.the-variants.{TooShort}
 use Rattle.model.specs.declared.Verdict.{Verdict}
 use Rattle.model.specs.declared.Verdict.the-variants.{Passed, Failed}
-use Rattle.model.specs.Rows.{_orElse_}
+use Rattle.model.specs.Rows.{tried}
 use Rattle.model.specs.DayChecks.{dayCheck}
 use Rattle.model.specs.BatchChecks.{batchCheck}
 use Rattle.model.specs.Netting.{net, dvp, nettingCheck}
@@ -19,13 +19,13 @@ use Rattle.model.specs.Report.{reportWords, wordsNeeded}
 
 -- the rows above 40
 unfoldable pub verdict : List ℕ → List ℕ → Verdict
-verdict d b = dayCheck d orElse batchCheck d b orElse nettingCheck d b
+verdict d b = tried (dayCheck d ∷ batchCheck d b ∷ nettingCheck d b ∷ [])
 
 abbrev pub Accepted : List ℕ → List ℕ → Type 0
 Accepted d b = verdict d b ≡ Passed
 
 abbrev pub report : List ℕ → List ℕ → List ℕ
-report d b = reportWords d (net b) (dvp b)
+report d b = reportWords d (net b) (net b) (dvp b)
 
 abbrev pub needed : List ℕ → List ℕ → ℕ
 needed d b = wordsNeeded d (net b) (dvp b)
@@ -38,11 +38,14 @@ abbrev pub answerOf : Verdict → Answer → Answer
 answerOf Passed a = a
 answerOf (Failed k) a = Refused k
 
--- the answer, where the report memory has this many words
-unfoldable pub answer : List ℕ → List ℕ → ℕ → Answer
-answer d b room = answerOf (verdict d b) (roomAnswer (needed d b) room)
+-- the answer of a call that tries the rows v and then has n words to write, where the memory has this many
+abbrev pub outcome : Verdict → ℕ → ℕ → Answer
+outcome v n room = answerOf v (roomAnswer n room)
 
--- a report is written over the front of the memory; a refusal writes nothing
+unfoldable pub answer : List ℕ → List ℕ → ℕ → Answer
+answer d b room = outcome (verdict d b) (needed d b) room
+
+-- what an answer leaves: the words over the front of the memory; of a refusal nothing
 abbrev pub written : Answer → List ℕ → List ℕ → List ℕ
 written (Report n) w m = w ++ drop n m
 written (Refused k) w m = m

@@ -1,6 +1,6 @@
 -- The checks of a day file: rows 10 to 17, and the first that refuses. d is the list of its words, c a class, s a series.
 use mathlib.Core.Bool.{Bool, not, _&&_, _||_, cond}
-use mathlib.Core.List.{List}
+use mathlib.Core.List.{List, [], _∷_}
 use Prim.Native.Nat.{ℕ, _+_, _*_, _-_}
 use lib.Dec.{leb, ltb, eqb}
 use lib.ListN.{length}
@@ -12,37 +12,38 @@ use Rattle.model.specs.declared.DayWordsFault.the-variants.{BadDayWord}
 use Rattle.model.specs.declared.ClassFault.the-variants.{ClassOrder, OffsetDiffers}
 use Rattle.model.specs.declared.SeriesFault.the-variants.{ClassAbsent, SeriesOrder, BadType}
 use Rattle.model.specs.declared.Verdict.{Verdict}
-use Rattle.model.specs.Words.{kind, payload, bits, badWord, badPrice}
-use Rattle.model.specs.Rows.{_orElse_, plainRow, recordRow}
-use Rattle.model.specs.DayFile.{dayHeader, classCount, seriesCount, classWord, group, classNumber, offset, seriesWord, seriesKey, serial, expiry, seriesType, multiplier, strike, isFuture, isSecurity, foundClass}
+use Rattle.model.specs.Limits.{mostClasses, mostSeries, groupCount, multiplierLimit, wholeOffset}
+use Rattle.model.specs.Words.{kind, payload, payloadLimit, bits, badWord, badPrice}
+use Rattle.model.specs.Rows.{tried, plainRow, recordRow}
+use Rattle.model.specs.DayFile.{dayHeader, classCount, seriesCount, classWords, seriesWords, dayWords, classWord, group, classNumber, offset, seriesWord, seriesKey, serial, expiry, seriesType, multiplier, strike, isFuture, isDerivative, isSecurity, foundClass}
 
 -- no words, wrong kind, spare bits, C or S too large
 unfoldable pub row10 : List ℕ → Bool
 row10 d =
     eqb (length d) 0 || not (eqb (kind (dayHeader d)) 1) || ltb 0 (bits (payload (dayHeader d)) 16 13)
-    || ltb 64 (classCount d) || ltb 256 (seriesCount d)
+    || ltb mostClasses (classCount d) || ltb mostSeries (seriesCount d)
 
 -- length isn't 1 + 20C + 14S
 unfoldable pub row11 : List ℕ → Bool
-row11 d = not (eqb (length d) (1 + 20 * classCount d + 14 * seriesCount d))
+row11 d = not (eqb (length d) (dayWords (classCount d) (seriesCount d)))
 
 -- word i of class c: the key (bits 11 on are spare), the offset, or a price or rate
 unfoldable pub badClassWord : List ℕ → ℕ → ℕ → Bool
 badClassWord d c i =
     cond (eqb i 0) (badWord (classWord d c 0) 2 2047)
-    (cond (eqb i 9) (badWord (classWord d c 9) 4 100) (badPrice (classWord d c i)))
+    (cond (eqb i 9) (badWord (classWord d c 9) 4 wholeOffset) (badPrice (classWord d c i)))
 
 -- word i of series s: the key (no spare bit), the multiplier, or a price
 unfoldable pub badSeriesWord : List ℕ → ℕ → ℕ → Bool
 badSeriesWord d s i =
-    cond (eqb i 0) (badWord (seriesWord d s 0) 2 536870911)
-    (cond (eqb i 1) (badWord (seriesWord d s 1) 4 10000) (badPrice (seriesWord d s i)))
+    cond (eqb i 0) (badWord (seriesWord d s 0) 2 payloadLimit)
+    (cond (eqb i 1) (badWord (seriesWord d s 1) 4 multiplierLimit) (badPrice (seriesWord d s i)))
 
 unfoldable pub badClass : List ℕ → ℕ → Bool
-badClass d c = anyBelow 20 (badClassWord d c) || ltb 28 (group d c)
+badClass d c = anyBelow classWords (badClassWord d c) || leb groupCount (group d c)
 
 unfoldable pub badSeries : List ℕ → ℕ → Bool
-badSeries d s = anyBelow 14 (badSeriesWord d s) || eqb (multiplier d s) 0
+badSeries d s = anyBelow seriesWords (badSeriesWord d s) || eqb (multiplier d s) 0
 
 -- wrong kind, spare bit or payload out of range in record i, classes then series
 unfoldable pub row12 : List ℕ → ℕ → Bool
@@ -70,21 +71,46 @@ row16 d s =
     && not (ltb (seriesKey d (s - 1)) (seriesKey d s)
     || (eqb (seriesKey d (s - 1)) (seriesKey d s) && ltb (strike d (s - 1)) (strike d s)))
 
--- type not 1–6; serial not 0 on types 1–3; strike not 0 on a future; strike or expiry not 0 on a security
+-- no type of 1–6; serial not 0 on types 1–3; strike not 0 on a future; strike or expiry not 0 on a security
 unfoldable pub row17 : List ℕ → ℕ → Bool
 row17 d s =
-    not (leb 1 (seriesType d s) && leb (seriesType d s) 6)
-    || (leb (seriesType d s) 3 && ltb 0 (serial d s))
+    not (isDerivative (seriesType d s) || isSecurity (seriesType d s))
+    || (isDerivative (seriesType d s) && ltb 0 (serial d s))
     || (isFuture (seriesType d s) && ltb 0 (strike d s))
     || (isSecurity (seriesType d s) && (ltb 0 (strike d s) || ltb 0 (expiry d s)))
 
+-- ---- the rows in their order
+
+-- the stage of the classes
+unfoldable pub classCheck : List ℕ → Verdict
+classCheck d =
+    tried
+    (recordRow (Classes ClassOrder) (row13 d) (classCount d)
+    ∷ recordRow (Classes OffsetDiffers) (row14 d) (classCount d)
+    ∷ [])
+
+-- the stage of the series
+unfoldable pub seriesCheck : List ℕ → Verdict
+seriesCheck d =
+    tried
+    (recordRow (Series ClassAbsent) (row15 d) (seriesCount d)
+    ∷ recordRow (Series SeriesOrder) (row16 d) (seriesCount d)
+    ∷ recordRow (Series BadType) (row17 d) (seriesCount d)
+    ∷ [])
+
+-- the records of a file of the right length
+unfoldable pub recordCheck : List ℕ → Verdict
+recordCheck d =
+    tried
+    (recordRow (DayWords BadDayWord) (row12 d) (classCount d + seriesCount d)
+    ∷ classCheck d
+    ∷ seriesCheck d
+    ∷ [])
+
 unfoldable pub dayCheck : List ℕ → Verdict
 dayCheck d =
-    plainRow (DayHeader BadDayHeader) (row10 d)
-    orElse plainRow (DayLength BadDayLength) (row11 d)
-    orElse recordRow (DayWords BadDayWord) (row12 d) (classCount d + seriesCount d)
-    orElse recordRow (Classes ClassOrder) (row13 d) (classCount d)
-    orElse recordRow (Classes OffsetDiffers) (row14 d) (classCount d)
-    orElse recordRow (Series ClassAbsent) (row15 d) (seriesCount d)
-    orElse recordRow (Series SeriesOrder) (row16 d) (seriesCount d)
-    orElse recordRow (Series BadType) (row17 d) (seriesCount d)
+    tried
+    (plainRow (DayHeader BadDayHeader) (row10 d)
+    ∷ plainRow (DayLength BadDayLength) (row11 d)
+    ∷ recordCheck d
+    ∷ [])

@@ -1,8 +1,8 @@
 -- The day file: its fields by class c, series s and point k (0 to 9 for D5 .. D1, U1 .. U5). d is the list of its words.
-use mathlib.Core.Bool.{Bool, _&&_, _||_}
+use mathlib.Core.Bool.{Bool, _||_}
 use mathlib.Core.List.{List}
 use Prim.Native.Nat.{ℕ, _+_, _*_}
-use lib.Dec.{leb, eqb}
+use lib.Dec.{eqb}
 use lib.ListN.{getD}
 use Rattle.numbers.specs.declared.Found.{Found}
 use Rattle.numbers.specs.declared.Found.the-variants.{At, Nothing}
@@ -20,10 +20,31 @@ classCount d = bits (payload (dayHeader d)) 0 7
 abbrev pub seriesCount : List ℕ → ℕ
 seriesCount d = bits (payload (dayHeader d)) 7 9
 
--- ---- a class: 20 words
+-- ---- the layout: the header, the classes, the series
+
+-- the words of a class, and of a series
+abbrev pub classWords : ℕ
+classWords = 20
+
+abbrev pub seriesWords : ℕ
+seriesWords = 14
+
+-- where class c stands
+abbrev pub classAt : ℕ → ℕ
+classAt c = 1 + classWords * c
+
+-- the words of a day file of c classes and s series
+abbrev pub dayWords : ℕ → ℕ → ℕ
+dayWords c s = classAt c + seriesWords * s
+
+-- where series s stands
+abbrev pub seriesAt : List ℕ → ℕ → ℕ
+seriesAt d s = dayWords (classCount d) s
+
+-- ---- a class
 
 abbrev pub classWord : List ℕ → ℕ → ℕ → ℕ
-classWord d c i = getD d (1 + 20 * c + i) 0
+classWord d c i = getD d (classAt c + i) 0
 
 abbrev pub group : List ℕ → ℕ → ℕ
 group d c = bits (payload (classWord d c 0)) 0 5
@@ -61,10 +82,10 @@ offset d c = payload (classWord d c 9)
 abbrev pub projected : List ℕ → ℕ → ℕ → ℕ
 projected d c k = payload (classWord d c (10 + k))
 
--- ---- a series: 14 words
+-- ---- a series
 
 abbrev pub seriesWord : List ℕ → ℕ → ℕ → ℕ
-seriesWord d s i = getD d (1 + 20 * classCount d + 14 * s + i) 0
+seriesWord d s i = getD d (seriesAt d s + i) 0
 
 abbrev pub seriesKey : List ℕ → ℕ → ℕ
 seriesKey d s = payload (seriesWord d s 0)
@@ -107,8 +128,21 @@ isPut t = eqb t 3
 abbrev pub isOption : ℕ → Bool
 isOption t = isCall t || isPut t
 
+abbrev pub isEquity : ℕ → Bool
+isEquity t = eqb t 4
+
+abbrev pub isWarrant : ℕ → Bool
+isWarrant t = eqb t 5
+
+abbrev pub isRights : ℕ → Bool
+isRights t = eqb t 6
+
 abbrev pub isSecurity : ℕ → Bool
-isSecurity t = leb 4 t && leb t 6
+isSecurity t = isEquity t || isWarrant t || isRights t
+
+-- a future or an option
+abbrev pub isDerivative : ℕ → Bool
+isDerivative t = isFuture t || isOption t
 
 -- ---- the class of a series: the one with the series' class number (the number of classes where there is none)
 

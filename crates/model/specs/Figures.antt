@@ -9,7 +9,7 @@ use Rattle.model.specs.DayFile.{offset}
 use Rattle.model.specs.Netting.{net, dvp}
 use Rattle.model.specs.Steps.{afterOffset, spreadQuantity, spotSpread, nonSpotSpread, spread, nonSpread, mtm, premium, classPoint, groupPoint, groupMtm}
 use Rattle.model.specs.Report.{lineCount}
-use Rattle.model.specs.Accounts.{Figure, allComputed, allPublished, minus, ten, noRates, dayFile, classRecord, seriesRecord, batchFile, positionRecord, lineOf, answerNumbers, status}
+use Rattle.model.specs.Accounts.{Figure, allComputed, allPublished, minus, ten, noRates, dayFile, classRecord, seriesRecord, batchFile, positionRecord, lineOf, answerNumbers, status, percent}
 use Rattle.model.specs.Computing.{everything}
 
 -- ---- M1: four futures, spot rate 300, non-spot rate 200
@@ -170,7 +170,7 @@ figures =
       computed = status credit creditHeld ∷ lineOf credit creditHeld 7;
       published = pos 0 ∷ pos 0 ∷ pos 1500000 ∷ minus 8914000 ∷ pos 3098000 ∷ pos 0 ∷ pos 4316000 ∷ [];
     }
-    ∷ record { computed = afterOffset 85 (minus 101) ∷ afterOffset 85 (minus 1) ∷ []; published = minus 85 ∷ pos 0 ∷ [] }
+    ∷ record { computed = afterOffset (percent 85) (minus 101) ∷ afterOffset (percent 85) (minus 1) ∷ []; published = minus 85 ∷ pos 0 ∷ [] }
     ∷ record {
       computed = answerNumbers large (largeHeld 1000) ++ answerNumbers large (largeHeld 1001);
       published = pos 0 ∷ pos 32 ∷ pos 30 ∷ pos 0 ∷ [];

@@ -19,7 +19,6 @@ pub mod Computing
 pub mod Accounts
 pub mod Figures
 pub mod Mistakes
-pub mod Examples
 pub mod Cases
 pub mod Refusals
 pub mod Ascii

@@ -1,4 +1,4 @@
--- The limits that amounts depend on, each once, and the sizes that they leave to sums. Amounts are ten-thousandths of a euro.
+-- The limits of counts and fields, each once, and the sizes that they leave to sums. Amounts are ten-thousandths of a euro.
 use Prim.Native.Nat.{ℕ, _+_, _*_, _/_}
 
 -- a price or a rate
@@ -17,9 +17,34 @@ dvpAmountLimit = 5000000000000000
 abbrev pub positionLimit : ℕ
 positionLimit = 10000000
 
--- the records of a batch
+-- the classes and the series of a day file, the records of a batch
+abbrev pub mostClasses : ℕ
+mostClasses = 64
+
+abbrev pub mostSeries : ℕ
+mostSeries = 256
+
 abbrev pub mostRecords : ℕ
 mostRecords = 256
+
+-- the product groups, numbered from 0; each has at most one line in each of the two books
+abbrev pub groupCount : ℕ
+groupCount = 29
+
+abbrev pub mostLines : ℕ
+mostLines = 2 * groupCount
+
+-- a multiplier
+abbrev pub multiplierLimit : ℕ
+multiplierLimit = 10000
+
+-- an offset that leaves a credit whole: 100 percent
+abbrev pub wholeOffset : ℕ
+wholeOffset = 100
+
+-- the points D5 .. D1, U1 .. U5
+abbrev pub pointCount : ℕ
+pointCount = 10
 
 -- ---- what a record adds at most: to a sum of net × multiplier × price, to a spread, to an MTM, to a margin
 

@@ -12,10 +12,11 @@ use Rattle.model.specs.declared.BytesFault.the-variants.{DayFile, BatchF
 use Rattle.model.specs.declared.Verdict.{Verdict}
 use Rattle.model.specs.Words.{payload, bits}
 use Rattle.model.specs.Answers.{numberOf, placeOf}
-use Rattle.model.specs.Rows.{_orElse_, plainRow}
+use Rattle.model.specs.Rows.{tried, plainRow}
 use Rattle.model.specs.Calls.{answer, answerOf, memoryAfter}
 use Rattle.model.specs.Bytes.{wordsOf, row1, row2}
 use Rattle.model.specs.Reading.{countIn, amountIn}
+use Rattle.model.specs.Report.{wordsALine, longestReport}
 
 -- ---- the heads of lines: "MARGIN", "O", "F", "TOTAL", "REFUSED" (Texts spells them)
 
@@ -69,7 +70,7 @@ lineText w i =
 -- the first n lines
 unfoldable pub linesText : List ℕ → ℕ → List ℕ
 linesText w zero = []
-linesText w (suc n) = linesText w n ++ lineText w (3 + 19 * n)
+linesText w (suc n) = linesText w n ++ lineText w (3 + wordsALine * n)
 
 -- the line count
 unfoldable pub countText : ℕ → List ℕ
@@ -80,7 +81,7 @@ unfoldable pub totalsText : List ℕ → ℕ → List ℕ
 totalsText w i = totalHead ++ amountFields w i 3 ++ 10 ∷ []
 
 unfoldable pub reportText : List ℕ → List ℕ
-reportText w = countText (countIn w) ++ linesText w (countIn w) ++ totalsText w (4 + 19 * countIn w)
+reportText w = countText (countIn w) ++ linesText w (countIn w) ++ totalsText w (4 + wordsALine * countIn w)
 
 -- a refusal: its number and place
 unfoldable pub refusalText : ℕ → ℕ → List ℕ
@@ -94,9 +95,9 @@ printed (Refused k) w = refusalText (numberOf k) (placeOf k)
 
 unfoldable pub filesCheck : Bool → List ℕ → Bool → List ℕ → Verdict
 filesCheck dayOpened day batchOpened batch =
-    plainRow (Bytes DayFile) (not dayOpened || row1 day) orElse plainRow (Bytes BatchFile) (not batchOpened || row2 batch)
+    tried (plainRow (Bytes DayFile) (not dayOpened || row1 day) ∷ plainRow (Bytes BatchFile) (not batchOpened || row2 batch) ∷ [])
 
 -- what it prints: the answer, read from its memory of zeros after the call over words
 unfoldable pub programText : Bool → List ℕ → Bool → List ℕ → List ℕ
 programText dayOpened day batchOpened batch =
-    printed (answerOf (filesCheck dayOpened day batchOpened batch) (answer (wordsOf day) (wordsOf batch) 1115)) (memoryAfter (wordsOf day) (wordsOf batch) (replicate 1115 0))
+    printed (answerOf (filesCheck dayOpened day batchOpened batch) (answer (wordsOf day) (wordsOf batch) longestReport)) (memoryAfter (wordsOf day) (wordsOf batch) (replicate longestReport 0))

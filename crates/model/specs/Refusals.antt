@@ -11,6 +11,9 @@ use Rattle.model.specs.Calls.{answer}
 use Rattle.model.specs.Bytes.{row1, row2, byteAnswer}
 use Rattle.model.specs.Accounts.{Figure, allComputed, allPublished, ten, noRates, dayFile, classRecord, seriesRecord, batchFile, positionRecord, numbersOf, answerNumbers}
 use Rattle.model.specs.Computing.{everything}
+use Rattle.model.specs.Limits.{wholeOffset}
+use Rattle.model.specs.DayFile.{classAt, dayWords}
+use Rattle.model.specs.Report.{longestReport}
 
 -- ---- an accepted day file and batch
 
@@ -33,9 +36,15 @@ held record₁ = batchFile 2 (positionRecord 2 1 0 (pos 0) ++ record₁)
 abbrev none : List ℕ
 none = batchFile 0 []
 
--- the same files with one word changed
-abbrev changed : ℕ → ℕ → List ℕ
-changed i w = set day i w
+-- the same file with another header, or one word of its class or of series s changed
+abbrev changedHeader : ℕ → List ℕ
+changedHeader w = set day 0 w
+
+abbrev changedClass : ℕ → ℕ → List ℕ
+changedClass i w = set day (classAt 0 + i) w
+
+abbrev changedSeries : ℕ → ℕ → ℕ → List ℕ
+changedSeries s i w = set day (dayWords 1 s + i) w
 
 unfoldable pub refusals : List Figure
 refusals =
@@ -49,22 +58,22 @@ refusals =
     -- 10: no words, another kind, a spare bit, 65 classes, 257 series
     ∷ record {
       computed =
-          answerNumbers [] none ++ answerNumbers (changed 0 (word 2 385)) none
-          ++ answerNumbers (changed 0 (word 1 (2 ^ 16 + 385))) none
+          answerNumbers [] none ++ answerNumbers (changedHeader (word 2 385)) none
+          ++ answerNumbers (changedHeader (word 1 (2 ^ 16 + 385))) none
           ++ answerNumbers (word 1 65 ∷ []) none
           ++ answerNumbers (word 1 (2 ^ 7 * 257) ∷ []) none;
       published = pos 10 ∷ pos 0 ∷ pos 10 ∷ pos 0 ∷ pos 10 ∷ pos 0 ∷ pos 10 ∷ pos 0 ∷ pos 10 ∷ pos 0 ∷ [];
     }
     -- 11: a word too many
     ∷ record { computed = answerNumbers (day ++ 0 ∷ []) none; published = pos 11 ∷ pos 0 ∷ [] }
-    -- 12: a spare bit of the class's key, group 29, an offset of 101; a multiplier of 10,001 and a price above its limit in the first series, a multiplier of 0 in the second
+    -- 12: a spare bit of the class's key, group 29, an offset above the whole; a multiplier of 10,001 and a price above its limit in the first series, a multiplier of 0 in the second
     ∷ record {
       computed =
-          answerNumbers (changed 1 (word 2 (2 + 2 ^ 11))) none ++ answerNumbers (changed 1 (word 2 29)) none
-          ++ answerNumbers (changed 10 (word 4 101)) none
-          ++ answerNumbers (changed 22 (word 4 10001)) none
-          ++ answerNumbers (changed 24 (word 3 500000001)) none
-          ++ answerNumbers (changed 36 (word 4 0)) none;
+          answerNumbers (changedClass 0 (word 2 (2 + 2 ^ 11))) none ++ answerNumbers (changedClass 0 (word 2 29)) none
+          ++ answerNumbers (changedClass 9 (word 4 (wholeOffset + 1))) none
+          ++ answerNumbers (changedSeries 0 1 (word 4 10001)) none
+          ++ answerNumbers (changedSeries 0 3 (word 3 500000001)) none
+          ++ answerNumbers (changedSeries 1 1 (word 4 0)) none;
       published = pos 12 ∷ pos 0 ∷ pos 12 ∷ pos 0 ∷ pos 12 ∷ pos 0 ∷ pos 12 ∷ pos 1 ∷ pos 12 ∷ pos 1 ∷ pos 12 ∷ pos 2 ∷ [];
     }
     -- 13: a class number again
@@ -78,15 +87,15 @@ refusals =
       published = pos 14 ∷ pos 1 ∷ [];
     }
     -- 15: class 1 in the third series
-    ∷ record { computed = answerNumbers (changed 49 (word 2 (2 ^ 19 * 4 + 2 ^ 23))) none; published = pos 15 ∷ pos 2 ∷ [] }
+    ∷ record { computed = answerNumbers (changedSeries 2 0 (word 2 (2 ^ 19 * 4 + 2 ^ 23))) none; published = pos 15 ∷ pos 2 ∷ [] }
     -- 16: a key below the one before
-    ∷ record { computed = answerNumbers (changed 49 (word 2 0)) none; published = pos 16 ∷ pos 2 ∷ [] }
+    ∷ record { computed = answerNumbers (changedSeries 2 0 (word 2 0)) none; published = pos 16 ∷ pos 2 ∷ [] }
     -- 17: type 7; a strike on the future; a serial on the call; an expiry on the share
     ∷ record {
       computed =
-          answerNumbers (changed 49 (word 2 (2 ^ 19 * 7))) none ++ answerNumbers (changed 23 (word 3 1)) none
-          ++ answerNumbers (changed 35 (word 2 (1 + 2 ^ 7 * 3 + 2 ^ 19 * 2))) none
-          ++ answerNumbers (changed 49 (word 2 (2 ^ 7 + 2 ^ 19 * 4))) none;
+          answerNumbers (changedSeries 2 0 (word 2 (2 ^ 19 * 7))) none ++ answerNumbers (changedSeries 0 2 (word 3 1)) none
+          ++ answerNumbers (changedSeries 1 0 (word 2 (1 + 2 ^ 7 * 3 + 2 ^ 19 * 2))) none
+          ++ answerNumbers (changedSeries 2 0 (word 2 (2 ^ 7 + 2 ^ 19 * 4))) none;
       published = pos 17 ∷ pos 2 ∷ pos 17 ∷ pos 0 ∷ pos 17 ∷ pos 1 ∷ pos 17 ∷ pos 2 ∷ [];
     }
     -- 20: no words, 257 records; 256 are no offence of this row
@@ -139,11 +148,14 @@ pub refusals-agree : allComputed refusals ≡ allPublished refusals
 unfolding refusals everything
 refusals-agree = refl
 
--- the longest forms are those of 64 classes and 256 series, and of 256 records
-pub longest-day : (l : List ℕ) → row1 l ≡ ltb 0 (length l % 4) || ltb (4 * (1 + 20 * 64 + 14 * 256)) (length l)
+-- the longest forms in words: rows 1 and 2 take so many and no more, and a report's memory needs no more
+pub longest-day : (l : List ℕ) → row1 l ≡ ltb 0 (length l % 4) || ltb (4 * 4865) (length l)
 unfolding row1
 longest-day l = refl
 
-pub longest-batch : (l : List ℕ) → row2 l ≡ ltb 0 (length l % 4) || ltb (4 * (1 + 6 * 256)) (length l)
+pub longest-batch : (l : List ℕ) → row2 l ≡ ltb 0 (length l % 4) || ltb (4 * 1537) (length l)
 unfolding row2
 longest-batch l = refl
+
+pub longest-report : longestReport ≡ 1115
+longest-report = refl

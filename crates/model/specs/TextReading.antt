@@ -16,6 +16,7 @@ use Rattle.model.specs.declared.AmountRead.the-variants.{Amount, NoAmoun
 use Rattle.model.specs.Answers.{numberOf, placeOf}
 use Rattle.model.specs.Reading.{countIn, totalIn, amountIn}
 use Rattle.model.specs.Printed.{marginHead, totalHead, refusedHead}
+use Rattle.model.specs.Limits.{mostLines}
 
 -- ---- fixed bytes
 
@@ -126,9 +127,9 @@ lastRead n t = cond (begins totalHead t) (totalsRead n (drop 5 t)) Unreadable
 unfoldable pub linesRead : ℕ → List ℕ → TextSays
 linesRead n t = lastRead n (drop (linesBytes t n) t)
 
--- behind the line count, which is at most 58
+-- behind the line count, which is at most that of all lines
 unfoldable pub countRead : ℕ → List ℕ → TextSays
-countRead n t = cond (leb n 58 && begins (10 ∷ []) t) (linesRead n (drop 1 t)) Unreadable
+countRead n t = cond (leb n mostLines && begins (10 ∷ []) t) (linesRead n (drop 1 t)) Unreadable
 
 -- behind the head of a report
 unfoldable pub reportRead : List ℕ → TextSays

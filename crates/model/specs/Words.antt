@@ -13,6 +13,10 @@ kind w = w / 2 ^ 29
 abbrev pub payload : ℕ → ℕ
 payload w = w % 2 ^ 29
 
+-- the largest payload, for a word without spare bits
+abbrev pub payloadLimit : ℕ
+payloadLimit = 536870911
+
 -- n bits of p, from bit i on
 abbrev pub bits : ℕ → ℕ → ℕ → ℕ
 bits p i n = p / 2 ^ i % 2 ^ n

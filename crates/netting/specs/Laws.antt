@@ -15,7 +15,7 @@ use Rattle.numbers.specs.Sums.{sumTo-abs}
 use Rattle.numbers.specs.Table.{tabulate, length-tabulate, getD-tabulate}
 use Rattle.model.specs.Limits.{contractsLimit, quantityLimit, dvpAmountLimit, mostRecords}
 use Rattle.model.specs.Batch.{recordCount, key, long, short}
-use Rattle.model.specs.Netting.{net}
+use Rattle.model.specs.Netting.{net, positionCount}
 use Rattle.netting.specs.Limits.{Limited}
 
 -- what record r adds to a net
@@ -62,7 +62,7 @@ net-limit b s p =
     )
 
 -- the net of record r's position, as read from the table
-pub net-read : (b : List ℕ) (nets : List ℤ) (k r : ℕ) → Limited b → nets ≡ tabulate 1024 (net b) → k ≡ key b r
+pub net-read : (b : List ℕ) (nets : List ℤ) (k r : ℕ) → Limited b → nets ≡ tabulate positionCount (net b) → k ≡ key b r
     → toZ w64 (ofZ w64 (getD nets k (pos 0))) ≡ net b (key b r)
 net-read b nets k r s e q =
-    back ((λ i. getD (e i) (q i) (pos 0)) ∙ getD-tabulate 1024 (net b) (key b r) (pos 0) (omega arith)) (omega (arith, net-limit b s (key b r)))
+    back ((λ i. getD (e i) (q i) (pos 0)) ∙ getD-tabulate positionCount (net b) (key b r) (pos 0) (omega arith)) (omega (arith, net-limit b s (key b r)))

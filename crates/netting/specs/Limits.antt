@@ -5,13 +5,13 @@ use Prim.Native.Nat.{ℕ, _+_, _*_, _≤_, _<_}
 use lib.IntN.{natAbs}
 use lib.ListN.{length}
 use Rattle.model.specs.Limits.{quantityLimit, dvpAmountLimit, mostRecords}
-use Rattle.model.specs.DayFile.{classCount, seriesCount}
+use Rattle.model.specs.DayFile.{classCount, seriesCount, dayWords}
 use Rattle.model.proofs.Accepted.{DayRows, BatchChecks}
 use Rattle.model.proofs.Limits.{batch-length, few-records, long-limit, short-limit, dvp-limit, place-limit, day-length}
-use Rattle.model.specs.Batch.{recordCount, place, long, short, dvpAmount}
+use Rattle.model.specs.Batch.{recordCount, place, long, short, dvpAmount, batchWords}
 
 pub record Limited (b : List ℕ) : Type 0 where
-  pub whole : length b ≡ 1 + 6 * recordCount b
+  pub whole : length b ≡ batchWords (recordCount b)
   pub few : recordCount b ≤ mostRecords
   pub longs : (r : ℕ) → r < recordCount b → long b r ≤ quantityLimit
   pub shorts : (r : ℕ) → r < recordCount b → short b r ≤ quantityLimit
@@ -19,7 +19,7 @@ pub record Limited (b : List ℕ) : Type 0 where
 
 -- .. and to be held against the day file: its length, and the places of the series (rows 11 and 23)
 pub record Placed (d b : List ℕ) : Type 0 where
-  pub whole : length d ≡ 1 + 20 * classCount d + 14 * seriesCount d
+  pub whole : length d ≡ dayWords (classCount d) (seriesCount d)
   pub places : (r : ℕ) → r < recordCount b → place b r < seriesCount d
 
 -- what the checks of the two files give

@@ -6,6 +6,7 @@ ghost use Rattle.model.specs.Steps.Spread.{spreadQuantity};
 ghost use Rattle.model.specs.Steps.Points.{classPoint};
 ghost use Rattle.classes.specs.Tables.{entry, Given};
 ghost use Rattle.classes.specs.Range.{Range};
+ghost use Rattle.model.specs.Limits.{pointCount};
 use crate::series;
 use accumulator::Points;
 use spread::sides::Sides;
@@ -24,7 +25,7 @@ pub fn class_points(
     requires { ⌜ book < 2 ⌝ }
     requires { ⌜ Range (now day) c a b ⌝ }
     requires { ⌜ quantity ≡ spreadQuantity (now day) (entry (now nets)) book c ⌝ }
-    ensures { λ r. ⌜ r .at ≡ tabulate 10 (classPoint (now (day .entry)) (entry (now (nets .entry))) book c) ⌝ }
+    ensures { λ r. ⌜ r .at ≡ tabulate pointCount (classPoint (now (day .entry)) (entry (now (nets .entry))) book c) ⌝ }
 {
     let mut sum = Points::new();
     let mut before = Sides::new();

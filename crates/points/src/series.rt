@@ -9,7 +9,7 @@ ghost use Rattle.model.specs.DayFile.{classCount, seriesCount, seriesType, isFu
 ghost use Rattle.model.specs.Steps.Classes.{signedByType};
 ghost use Rattle.model.specs.Steps.Spread.{spreadQuantity, shortBefore, longBefore};
 ghost use Rattle.model.specs.Steps.Points.{pointOf};
-ghost use Rattle.model.specs.Limits.{contractsLimit, runningLimit, worthLimit};
+ghost use Rattle.model.specs.Limits.{contractsLimit, runningLimit, worthLimit, pointCount};
 ghost use Rattle.classes.specs.Tables.{entry, Day, Given};
 ghost use Rattle.spread.specs.Sides.{nonSpreadOf};
 ghost use Rattle.points.specs.Series.{openAdded, exercisedAdded};
@@ -24,7 +24,7 @@ use spread::sides::Sides;
 fn open_position(day: &[u32], s: usize, net: i64) -> Position
     requires { ⌜ Day (now day) ⌝ }
     requires { ⌜ (s < seriesCount (now day)) × (natAbs net * multiplier (now day) s ≤ contractsLimit) ⌝ }
-    ensures { λ r. ⌜ (r .contracts ≡ net *ℤ pos (multiplier (now (day .entry)) s)) × (r .base ≡ closing (now (day .entry)) s) × (r .prices ≡ tabulate 10 (theoretical (now (day .entry)) s)) ⌝ }
+    ensures { λ r. ⌜ (r .contracts ≡ net *ℤ pos (multiplier (now (day .entry)) s)) × (r .base ≡ closing (now (day .entry)) s) × (r .prices ≡ tabulate pointCount (theoretical (now (day .entry)) s)) ⌝ }
 {
     let prices = prices::theoretical_prices(day, s);
     Position {
@@ -38,7 +38,7 @@ fn open_position(day: &[u32], s: usize, net: i64) -> Position
 fn exercised_position(day: &[u32], c: usize, s: usize, net: i64) -> Position
     requires { ⌜ Day (now day) ⌝ }
     requires { ⌜ (c < classCount (now day)) × (s < seriesCount (now day)) × (natAbs net * multiplier (now day) s ≤ contractsLimit) ⌝ }
-    ensures { λ r. ⌜ (r .contracts ≡ signedByType (seriesType (now (day .entry)) s) (net *ℤ pos (multiplier (now (day .entry)) s))) × (r .base ≡ underlying (now (day .entry)) c) × (r .prices ≡ tabulate 10 (projected (now (day .entry)) c)) ⌝ }
+    ensures { λ r. ⌜ (r .contracts ≡ signedByType (seriesType (now (day .entry)) s) (net *ℤ pos (multiplier (now (day .entry)) s))) × (r .base ≡ underlying (now (day .entry)) c) × (r .prices ≡ tabulate pointCount (projected (now (day .entry)) c)) ⌝ }
 {
     let prices = prices::projected_prices(day, c);
     Position {
@@ -67,7 +67,7 @@ fn counted_net(day: &[u32], s: usize, net: i64, quantity: i64, before: Sides) ->
 fn add_open(points: Points, day: &[u32], s: usize, net: i64) -> Points
     requires { ⌜ Day (now day) ⌝ }
     requires { ⌜ (s < seriesCount (now day)) × (natAbs net * multiplier (now day) s ≤ contractsLimit) ⌝ }
-    requires { ⌜ ((k : ℕ) → k < 10 → natAbs (getD (points .at) k (pos 0)) ≤ runningLimit) ⌝ }
+    requires { ⌜ ((k : ℕ) → k < pointCount → natAbs (getD (points .at) k (pos 0)) ≤ runningLimit) ⌝ }
     ensures { λ r. ⌜ r .at ≡ openAdded (now (day .entry)) s (points .at) net ⌝ }
 {
     if !amounts::not_zero(net) {
@@ -80,7 +80,7 @@ fn add_open(points: Points, day: &[u32], s: usize, net: i64) -> Points
 fn add_exercised(points: Points, day: &[u32], c: usize, s: usize, net: i64) -> Points
     requires { ⌜ Day (now day) ⌝ }
     requires { ⌜ (c < classCount (now day)) × (s < seriesCount (now day)) × (natAbs net * multiplier (now day) s ≤ contractsLimit) ⌝ }
-    requires { ⌜ ((k : ℕ) → k < 10 → natAbs (getD (points .at) k (pos 0)) ≤ runningLimit) ⌝ }
+    requires { ⌜ ((k : ℕ) → k < pointCount → natAbs (getD (points .at) k (pos 0)) ≤ runningLimit) ⌝ }
     ensures { λ r. ⌜ r .at ≡ exercisedAdded (now (day .entry)) c s (points .at) net ⌝ }
 {
     if !amounts::not_zero(net) {
@@ -104,8 +104,8 @@ pub fn add_series(
     requires { ⌜ (book < 2) × (c < classCount (now day)) × (s < seriesCount (now day)) ⌝ }
     requires { ⌜ quantity ≡ spreadQuantity (now day) (entry (now nets)) book c ⌝ }
     requires { ⌜ (before .short ≡ shortBefore (now day) (entry (now nets)) book c s) × (before .long ≡ longBefore (now day) (entry (now nets)) book c s) ⌝ }
-    requires { ⌜ ((k : ℕ) → k < 10 → natAbs (getD (points .at) k (pos 0)) ≤ worthLimit) ⌝ }
-    ensures { λ r. ⌜ r .at ≡ tabulate 10 (λ k. getD (points .at) k (pos 0) +ℤ pointOf (now (day .entry)) (entry (now (nets .entry))) book c k s) ⌝ }
+    requires { ⌜ ((k : ℕ) → k < pointCount → natAbs (getD (points .at) k (pos 0)) ≤ worthLimit) ⌝ }
+    ensures { λ r. ⌜ r .at ≡ tabulate pointCount (λ k. getD (points .at) k (pos 0) +ℤ pointOf (now (day .entry)) (entry (now (nets .entry))) book c k s) ⌝ }
 {
     let net = position_amount(nets, book, 0, s);
     let next = add_open(points, day, s, counted_net(day, s, net, quantity, before));

@@ -1,6 +1,6 @@
 // What the report program prints for its two files.
 ghost use mathlib.Core.Path.{_≡_};
-ghost use Prim.Native.Nat.{_≤_};
+ghost use Prim.Native.Nat.{_*_, _≤_};
 ghost use lib.ListN.{length, replicate};
 ghost use Rattle.io.specs.Counts.{Counts};
 ghost use Rattle.numbers.specs.Put.{put};
@@ -9,9 +9,10 @@ ghost use Rattle.model.specs.Calls.{memoryAfter, report as reportOf};
 ghost use Rattle.model.specs.Printed.{programText};
 ghost use Rattle.text.specs.Room.{longestText};
 ghost use Rattle.program.specs.Files.{filesAnswer, callText};
+ghost use Rattle.model.specs.Report.{longestReport};
+use byte_report::LONGEST_REPORT;
 use model::Answer;
-use model::BytesFault;
-use model::Check;
+use model::Verdict;
 
 // The answer for two files, each opened or not, and the bytes of the report over a memory of zeros.
 fn answer_files(
@@ -21,20 +22,14 @@ fn answer_files(
     batch: &[u8],
     memory: &mut [u8],
 ) -> Answer
-    requires { ⌜ now memory ≡ replicate 4460 0 ⌝ }
+    requires { ⌜ now memory ≡ replicate (4 * longestReport) 0 ⌝ }
     ensures { λ r. ⌜ r ≡ filesAnswer «day_opened» (now (day .entry)) «batch_opened» (now (batch .entry)) ⌝ }
-    ensures { λ r. ⌜ now (memory .exit) ≡ writtenBytes r (reportOf (wordsOf (now (day .entry))) (wordsOf (now (batch .entry)))) (replicate 4460 0) ⌝ }
+    ensures { λ r. ⌜ now (memory .exit) ≡ writtenBytes r (reportOf (wordsOf (now (day .entry))) (wordsOf (now (batch .entry)))) (replicate (4 * longestReport) 0) ⌝ }
 {
-    if !day_opened {
-        return Answer::Refused(Check::Bytes(BytesFault::DayFile, 0));
+    if let Verdict::Failed(k) = byte_check::check_files(day_opened, day, batch_opened, batch) {
+        return Answer::Refused(k);
     }
-    if !batch_opened {
-        if mars::bad_bytes(day, 4865) {
-            return Answer::Refused(Check::Bytes(BytesFault::DayFile, 0));
-        }
-        return Answer::Refused(Check::Bytes(BytesFault::BatchFile, 0));
-    }
-    mars::byte_report(day, batch, memory)
+    byte_report::byte_report(day, batch, memory)
 }
 
 // The text, by way of lent memories for the report's bytes and words.
@@ -47,12 +42,12 @@ fn print_through(
     words: &mut [u32],
     out: &mut [u8],
 ) -> usize
-    requires { ⌜ now memory ≡ replicate 4460 0 ⌝ }
-    requires { ⌜ length (now words) ≡ 1115 ⌝ }
+    requires { ⌜ now memory ≡ replicate (4 * longestReport) 0 ⌝ }
+    requires { ⌜ length (now words) ≡ longestReport ⌝ }
     requires { ⌜ longestText ≤ length (now out) ⌝ }
     ensures { λ r. ⌜ (r ≡ length (programText «day_opened» (now (day .entry)) «batch_opened» (now (batch .entry)))) × (now (out .exit) ≡ put 0 (programText «day_opened» (now (day .entry)) «batch_opened» (now (batch .entry))) (now (out .entry))) ⌝ }
     ensures { λ r. ⌜ Counts r (now (out .exit)) ⌝ }
-    ensures { λ _. ⌜ now (memory .exit) ≡ writtenBytes (filesAnswer «day_opened» (now (day .entry)) «batch_opened» (now (batch .entry))) (reportOf (wordsOf (now (day .entry))) (wordsOf (now (batch .entry)))) (replicate 4460 0) ⌝ }
+    ensures { λ _. ⌜ now (memory .exit) ≡ writtenBytes (filesAnswer «day_opened» (now (day .entry)) «batch_opened» (now (batch .entry))) (reportOf (wordsOf (now (day .entry))) (wordsOf (now (batch .entry)))) (replicate (4 * longestReport) 0) ⌝ }
     ensures { λ _. ⌜ now (words .exit) ≡ put 0 (wordsOf (now (memory .exit))) (now (words .entry)) ⌝ }
 {
     let answer = answer_files(day_opened, day, batch_opened, batch, memory);
@@ -72,8 +67,8 @@ pub fn print_files(
     ensures { λ r. ⌜ (r ≡ length (programText «day_opened» (now (day .entry)) «batch_opened» (now (batch .entry)))) × (now (out .exit) ≡ put 0 (programText «day_opened» (now (day .entry)) «batch_opened» (now (batch .entry))) (now (out .entry))) ⌝ }
     ensures { λ r. ⌜ Counts r (now (out .exit)) ⌝ }
 {
-    let mut memory = [0u8; 4460];
-    let mut words = [0u32; 1115];
+    let mut memory = [0u8; 4 * LONGEST_REPORT];
+    let mut words = [0u32; LONGEST_REPORT];
     print_through(
         day_opened,
         day,

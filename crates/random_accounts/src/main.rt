@@ -10,7 +10,9 @@ ghost use Rattle.model.specs.Calls.{memoryAfter};
 ghost use Rattle.program.specs.Files.{callText};
 ghost use Rattle.text.specs.Room.{longestText};
 ghost use Rattle.random_accounts.specs.Fronts.{front, behind};
+use byte_report::LONGEST_REPORT;
 use libc::STDOUT_FILENO;
+use text::lines::LONGEST_TEXT;
 use words::index;
 use words::word_at;
 
@@ -83,8 +85,8 @@ fn run_next(fd: i32, i: u32) {
     let mut lengths = [0u32; 3];
     let mut day = [0u32; 4900];
     let mut batch = [0u32; 1600];
-    let mut memory = [0u32; 1115];
-    let mut out = [0u8; 9090];
+    let mut memory = [0u32; LONGEST_REPORT];
+    let mut out = [0u8; LONGEST_TEXT];
     read_words(fd, 3, &mut bytes, &mut lengths);
     read_words(fd, at_most(lengths[0], 4900), &mut bytes, &mut day);
     read_words(fd, at_most(lengths[1], 1600), &mut bytes, &mut batch);

@@ -1,4 +1,2 @@
 pub mod Texts
 pub mod Room
-pub mod Heads
-pub mod ReadingSteps

@@ -1,14 +1,18 @@
--- What the text of an answer needs: a buffer for the longest text, and a report of at most 58 lines.
+-- What the text of an answer needs: a buffer for the longest text, and a report of no more lines than there can be.
 use mathlib.Core.List.{List}
-use Prim.Native.Nat.{ℕ, _≤_}
+use Prim.Native.Nat.{ℕ, _+_, _*_, _≤_}
 use Rattle.model.specs.declared.Answer.{Answer}
 use Rattle.model.specs.declared.Answer.the-variants.{Report, Refused}
 use Rattle.model.specs.Reading.{countIn}
+use Rattle.model.specs.Limits.{mostLines}
 
--- the line count, 58 lines and the totals: 28 + 58 × 155 + 72
+-- the line count (28 bytes), every line and the totals (72 bytes)
+abbrev pub longestLine : ℕ
+longestLine = 155
+
 abbrev pub longestText : ℕ
-longestText = 9090
+longestText = 28 + longestLine * mostLines + 72
 
 abbrev pub Room : Answer → List ℕ → Type 0
-Room (Report n) w = countIn w ≤ 58
+Room (Report n) w = countIn w ≤ mostLines
 Room (Refused k) w = Unit

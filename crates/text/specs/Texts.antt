@@ -1,4 +1,4 @@
--- The lengths of fields and lines, and one more of them, as loops meet them.
+-- The lengths of lines, and one more of them, as loops meet them.
 use mathlib.Core.Path.{_≡_, refl}
 use mathlib.Core.Bool.{Bool, true, false, cond}
 use mathlib.Core.List.{List, [], _∷_, _++_}
@@ -9,9 +9,11 @@ use lib.Dec.{eqb}
 use lib.ListN.{length, getD, length-append}
 use Rattle.numbers.specs.Put.{put}
 use Rattle.model.specs.Words.{payload, bits}
-use Rattle.model.specs.Reading.{amountIn}
-use Rattle.model.specs.Printed.{signedDecimal, numberField, amountFields, marginHead, ordinaryHead, failHead, totalHead, lineText, linesText, countText, totalsText}
-use Rattle.model.proofs.Digits.{decimal-length, signed-length}
+use Rattle.model.specs.Printed.{numberField, amountFields, marginHead, ordinaryHead, failHead, totalHead, lineText, linesText, countText, totalsText}
+use Rattle.model.proofs.Digits.{decimal-length}
+use Rattle.text_fields.specs.Fields.{fields-length}
+use Rattle.model.specs.Report.{wordsALine}
+use Rattle.text.specs.Room.{longestLine}
 
 -- text from place 0 on ends at its length
 pub from-front : (w l : List ℕ) {n : ℕ} {m : List ℕ} → (n ≡ 0 + length w) × (m ≡ put 0 w l) → (n ≡ length w) × (m ≡ put 0 w l)
@@ -29,31 +31,12 @@ head-length p = by (eqb (bits p 5 1) 1)
     by false = refl
 
 module _ (w : List ℕ) where
-  pub fields-none : (i : ℕ) → amountFields w i 0 ≡ []
-  unfolding amountFields
-  fields-none i = refl
-
-  pub fields-more : (i n : ℕ) → amountFields w i (n + 1) ≡ amountFields w i n ++ 32 ∷ signedDecimal (amountIn w (i + 3 * n))
-  unfolding amountFields
-  fields-more i n = rw add-one
-
-  pub fields-length : (i n : ℕ) → length (amountFields w i n) ≤ 22 * n
-  unfolding amountFields
-  fields-length i zero = omega arith
-  fields-length i (suc n) =
-      omega (
-        arith,
-        fields-length i n,
-        signed-length (amountIn w (i + 3 * n)),
-        length-append (amountFields w i n) (32 ∷ signedDecimal (amountIn w (i + 3 * n))),
-      )
-
   -- a line's parts
   pub lineParts : (i : ℕ) → lineText w i ≡ headOf (payload (getD w i 0)) ++ numberField (bits (payload (getD w i 0)) 0 5) ++ amountFields w (i + 1) 6 ++ 10 ∷ []
   unfolding lineText
   lineParts i = refl
 
-  pub line-length : (i : ℕ) → length (lineText w i) ≤ 155
+  pub line-length : (i : ℕ) → length (lineText w i) ≤ longestLine
   unfolding lineText
   line-length i =
       let p : ℕ = payload (getD w i 0) in
@@ -64,7 +47,7 @@ module _ (w : List ℕ) where
         arith,
         head-length p,
         decimal-length (bits p 0 5),
-        fields-length (i + 1) 6,
+        fields-length w (i + 1) 6,
         length-append (h ++ n ++ f) (10 ∷ []),
         length-append (h ++ n) f,
         length-append h n,
@@ -74,15 +57,15 @@ module _ (w : List ℕ) where
   unfolding linesText
   lines-none = refl
 
-  pub lines-more : (n : ℕ) → linesText w (n + 1) ≡ linesText w n ++ lineText w (3 + 19 * n)
+  pub lines-more : (n : ℕ) → linesText w (n + 1) ≡ linesText w n ++ lineText w (3 + wordsALine * n)
   unfolding linesText
   lines-more n = rw add-one
 
-  pub lines-length : (n : ℕ) → length (linesText w n) ≤ 155 * n
+  pub lines-length : (n : ℕ) → length (linesText w n) ≤ longestLine * n
   unfolding linesText
   lines-length zero = omega arith
   lines-length (suc n) =
-      omega (arith, lines-length n, line-length (3 + 19 * n), length-append (linesText w n) (lineText w (3 + 19 * n)))
+      omega (arith, lines-length n, line-length (3 + wordsALine * n), length-append (linesText w n) (lineText w (3 + wordsALine * n)))
 
   -- the longest text: 58 lines
   pub totals-length : (i : ℕ) → length (totalsText w i) ≤ 72
@@ -90,7 +73,7 @@ module _ (w : List ℕ) where
   totals-length i =
       omega (
         arith,
-        fields-length i 3,
+        fields-length w i 3,
         length-append (totalHead ++ amountFields w i 3) (10 ∷ []),
         length-append totalHead (amountFields w i 3),
       )

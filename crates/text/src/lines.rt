@@ -5,17 +5,35 @@ ghost use lib.ListN.{length};
 ghost use Rattle.numbers.specs.Put.{put};
 ghost use Rattle.model.specs.Reading.{countIn};
 ghost use Rattle.model.specs.Printed.{lineText, linesText, countText, totalsText, reportText, refusalText, printed};
-ghost use Rattle.text.specs.Room.{Room, longestText};
+ghost use Rattle.text.specs.Room.{Room, longestText, longestLine};
 ghost use Rattle.text.specs.Texts.{headOf};
-use crate::fields::write_amounts;
-use crate::fields::write_byte;
-use crate::fields::write_head;
-use crate::fields::write_number;
+ghost use Rattle.model.specs.Limits.{mostLines};
+use line_words::LINE_WORDS;
+use line_words::MOST_LINES;
 use model::Answer;
+use text_fields::write_amounts;
+use text_fields::write_byte;
+use text_fields::write_number;
 use words::index;
 use words::payload;
 use words::wide;
 use words::word_at;
+
+// The bytes of the longest text: the line count, the lines and the totals.
+pub const LONGEST_TEXT: usize = 28 + 155 * MOST_LINES + 72;
+
+// A fixed byte string: the head of a line.
+fn write_head(out: &mut [u8], at: usize, head: &[u8]) -> usize
+    requires { ⌜ at + length (now head) ≤ length (now out) ⌝ }
+    ensures { λ r. ⌜ (r ≡ at + length (now (head .entry))) × (now (out .exit) ≡ put at (now (head .entry)) (now (out .entry))) ⌝ }
+{
+    let mut i: usize = 0;
+    while i < head.len() {
+        out[at + i] = head[i];
+        i = i + 1;
+    }
+    at + head.len()
+}
 
 // O, or F where bit 5 of a line's key is set.
 fn write_book(out: &mut [u8], at: usize, key: u32) -> usize
@@ -30,7 +48,7 @@ fn write_book(out: &mut [u8], at: usize, key: u32) -> usize
 
 // The line that begins at word i of the report.
 fn write_line(out: &mut [u8], at: usize, report: &[u32], i: usize) -> usize
-    requires { ⌜ (at + 155 ≤ length (now out)) × (i ≤ 10000) ⌝ }
+    requires { ⌜ (at + longestLine ≤ length (now out)) × (i ≤ 10000) ⌝ }
     ensures { λ r. ⌜ (r ≡ at + length (lineText (now (report .entry)) i)) × (now (out .exit) ≡ put at (lineText (now (report .entry)) i) (now (out .entry))) ⌝ }
 {
     let key = payload(word_at(report, i));
@@ -42,13 +60,13 @@ fn write_line(out: &mut [u8], at: usize, report: &[u32], i: usize) -> usize
 
 // The first n lines of the report.
 fn write_lines(out: &mut [u8], at: usize, report: &[u32], n: usize) -> usize
-    requires { ⌜ (at + 155 * n ≤ length (now out)) × (n ≤ 58) ⌝ }
+    requires { ⌜ (at + longestLine * n ≤ length (now out)) × (n ≤ mostLines) ⌝ }
     ensures { λ r. ⌜ (r ≡ at + length (linesText (now (report .entry)) n)) × (now (out .exit) ≡ put at (linesText (now (report .entry)) n) (now (out .entry))) ⌝ }
 {
     let mut end = at;
     let mut k: usize = 0;
     while k < n {
-        end = write_line(out, end, report, 3 + 19 * k);
+        end = write_line(out, end, report, 3 + LINE_WORDS * k);
         k = k + 1;
     }
     end
@@ -77,14 +95,14 @@ fn write_totals(out: &mut [u8], at: usize, report: &[u32], i: usize) -> usize
 // The text of a report, from its words.
 fn write_report(out: &mut [u8], report: &[u32]) -> usize
     requires { ⌜ longestText ≤ length (now out) ⌝ }
-    requires { ⌜ countIn (now report) ≤ 58 ⌝ }
+    requires { ⌜ countIn (now report) ≤ mostLines ⌝ }
     ensures { λ r. ⌜ (r ≡ length (reportText (now (report .entry)))) × (now (out .exit) ≡ put 0 (reportText (now (report .entry))) (now (out .entry))) ⌝ }
 {
     let count = payload(word_at(report, 0));
     let n = index(count);
     let a = write_count(out, 0, wide(count));
     let b = write_lines(out, a, report, n);
-    write_totals(out, b, report, 4 + 19 * n)
+    write_totals(out, b, report, 4 + LINE_WORDS * n)
 }
 
 // The text of a refusal.

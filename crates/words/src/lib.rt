@@ -5,6 +5,9 @@ ghost use lib.IntN.{natAbs};
 ghost use lib.ListN.{getD};
 ghost use Rattle.model.specs.Words.{kind as kindOf, payload as payloadOf, bits as bitsOf, word as wordOf, badWord, magnitude as magnitudeOf, negative as negativeOf, amount as amountOf, highWord, middleWord, lowWord, signBit};
 
+// The largest payload.
+pub const PAYLOAD_LIMIT: u32 = 536870911;
+
 // Word i of a run of words, 0 past its end.
 pub fn word_at(words: &[u32], i: usize) -> u32
     ensures { λ r. ⌜ r ≡ getD (now (words .entry)) i 0 ⌝ }

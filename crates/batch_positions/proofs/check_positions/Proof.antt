@@ -1,6 +1,6 @@
 use borrow.Author.Needs.{needs}
 use Rattle.model.proofs.Verdicts.{verdicts}
-use Rattle.batch_positions.specs.Stage.{positionCheck}
+use Rattle.model.specs.BatchChecks.{positionCheck}
 use Rattle.batch_positions.proofs.check_positions.Statement.{statement}
 use Rattle.batch_positions.proofs.check_positions.Tie as tie
 

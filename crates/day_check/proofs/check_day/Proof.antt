@@ -1,48 +1,36 @@
 use borrow.Author.Needs.{needs}
-use Rattle.model.proofs.Verdicts.{equal-of, or-passed, plain-passed, row-passed, verdicts}
-use mathlib.Core.Path.{_≡_}
-use mathlib.Core.List.{List}
-use Prim.Native.Nat.{ℕ, _+_, _*_}
 use lib.ListN.{length}
-use Rattle.model.specs.DayFile.{classCount, seriesCount}
-use Rattle.model.specs.DayChecks.{row11}
-use Rattle.day_check.specs.Stages.{by-stages}
+use Rattle.model.proofs.Verdicts.{equal-of, verdicts}
+use Rattle.model.specs.DayFile.{classCount, seriesCount, dayWords}
+use Rattle.model.specs.DayChecks.{row11, dayCheck}
 use Rattle.day_check.proofs.check_day.Statement.{statement}
 use Rattle.day_check.proofs.check_day.Tie as tie
 
-module _ (b : tie.Else2) where
-  abbrev d : List ℕ
-  d = b .before .before .before .before .before .args .day .now
+check-records-requires : tie.Need-check-records-requires
+unfolding row11
+check-records-requires c κs =
+    let d = c .before .before .before .before .before .args .day .now in
+    equal-of (length d) (dayWords (classCount d) (seriesCount d)) (c .before .bad-length .result) (c .before .bad-length .ensures) (c .if2 .left)
 
-  as-told : length d ≡ 1 + 20 * classCount d + 14 * seriesCount d
-  unfolding row11
-  as-told = equal-of (length d) (1 + 20 * classCount d + 14 * seriesCount d) (b .before .bad-length .result) (b .before .bad-length .ensures) (b .if2 .left)
+returns : tie.Need-returns
+unfolding dayCheck
+returns c = search (verdicts, needs)
 
-first-bad-record-requires : tie.Need-first-bad-record-requires
-first-bad-record-requires c κs = (as-told (c .before), search needs)
+returns-2 : tie.Need-returns-2
+unfolding dayCheck
+returns-2 c = search (verdicts, needs)
 
-check-classes-requires : tie.Need-check-classes-requires
-check-classes-requires c κs = as-told (c .before .before .before .before)
-
-check-series-requires : tie.Need-check-series-requires
-check-series-requires c κs = as-told (c .before .before .before .before .before .before .before)
+returns-3 : tie.Need-returns-3
+unfolding dayCheck
+returns-3 c = search (verdicts, needs)
 
 pub check-day-spec : {M : Type 1} → statement M
 check-day-spec =
     tie.close
     (tie.spec
     (λ c κs. search needs)
-    (λ c. search (verdicts, by-stages, needs))
+    returns
     (λ c κs. search needs)
-    (λ c. search (verdicts, by-stages, needs))
-    (λ c κs. search needs)
-    first-bad-record-requires
-    (λ c. search needs)
-    (λ c. search (verdicts, by-stages, needs))
-    (λ c. search needs)
-    check-classes-requires
-    (λ c. search needs)
-    (λ c. search (verdicts, by-stages, needs))
-    (λ c. search needs)
-    check-series-requires
-    (λ c. search (by-stages, plain-passed, row-passed, or-passed)))
+    returns-2
+    check-records-requires
+    returns-3)

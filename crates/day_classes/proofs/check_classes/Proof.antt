@@ -1,6 +1,6 @@
 use borrow.Author.Needs.{needs}
 use Rattle.model.proofs.Verdicts.{verdicts}
-use Rattle.day_classes.specs.Stage.{classCheck}
+use Rattle.model.specs.DayChecks.{classCheck}
 use Rattle.day_classes.proofs.check_classes.Statement.{statement}
 use Rattle.day_classes.proofs.check_classes.Tie as tie
 

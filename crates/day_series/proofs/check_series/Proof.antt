@@ -1,6 +1,6 @@
 use borrow.Author.Needs.{needs}
 use Rattle.model.proofs.Verdicts.{verdicts}
-use Rattle.day_series.specs.Stage.{seriesCheck}
+use Rattle.model.specs.DayChecks.{seriesCheck}
 use Rattle.day_series.proofs.check_series.Statement.{statement}
 use Rattle.day_series.proofs.check_series.Tie as tie
 

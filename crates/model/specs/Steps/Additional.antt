@@ -8,10 +8,11 @@ use Rattle.numbers.specs.Extremes.{largest}
 use Rattle.model.specs.DayFile.{offset}
 use Rattle.model.specs.Steps.Classes.{overClasses}
 use Rattle.model.specs.Steps.Points.{classPoint}
+use Rattle.model.specs.Limits.{wholeOffset, pointCount}
 
--- a credit is multiplied by the offset and divided by 100, rounded toward zero; a debit remains whole
+-- a credit is multiplied by the offset and divided by the whole, rounded toward zero; a debit remains whole
 unfoldable pub afterOffset : ℕ → ℤ → ℤ
-afterOffset percent z = cond (ltZ z (pos 0)) (quotZ (z *ℤ pos percent) (pos 100)) z
+afterOffset percent z = cond (ltZ z (pos 0)) (quotZ (z *ℤ pos percent) (pos wholeOffset)) z
 
 module _ (d : List ℕ) (net : ℕ → ℤ) (book : ℕ) where
   -- the classes of a group added point by point, each after its own offset
@@ -20,4 +21,4 @@ module _ (d : List ℕ) (net : ℕ → ℤ) (book : ℕ) where
 
   -- the largest of the ten sums, or 0 if none is positive
   unfoldable pub additional : ℕ → ℤ
-  additional g = largest 10 (groupPoint g)
+  additional g = largest pointCount (groupPoint g)

@@ -10,6 +10,7 @@ use Rattle.model.specs.DayFile.{seriesCount, seriesGroup}
 use Rattle.model.specs.Netting.{position}
 use Rattle.model.specs.Steps.Positions.{held}
 use Rattle.model.specs.Steps.Margin.{margin}
+use Rattle.model.specs.Limits.{groupCount}
 
 module _ (d : List ℕ) (net dvp : ℕ → ℤ) (book : ℕ) where
   -- series s is of group g, and its open or its exercised or assigned position has net or DVP not zero
@@ -20,6 +21,8 @@ module _ (d : List ℕ) (net dvp : ℕ → ℤ) (book : ℕ) where
   unfoldable pub hasLine : ℕ → Bool
   hasLine g = anyBelow (seriesCount d) (heldIn g)
 
+-- which groups have a line goes by `net`, the amounts by `after`
+module _ (d : List ℕ) (net after dvp : ℕ → ℤ) (book : ℕ) where
   -- the book's total: its lines' margins added; residual credit lowers no other line (house rule)
   unfoldable pub total : ℤ
-  total = sumWhere 29 hasLine (margin d net dvp book)
+  total = sumWhere groupCount (hasLine d net dvp book) (margin d after dvp book)

@@ -14,7 +14,7 @@ use Rattle.numbers.specs.Table.{length-tabulate}
 use Rattle.model.specs.Limits.{positionLimit}
 use Rattle.model.specs.DayFile.{multiplier, seriesWord}
 use Rattle.model.specs.Batch.{key, place}
-use Rattle.model.specs.Netting.{net, row30}
+use Rattle.model.specs.Netting.{net, row30, positionCount, places}
 use Rattle.netting.specs.Laws.{net-limit, net-read}
 use Rattle.netting.proofs.too_large.Statement.{statement}
 use Rattle.netting.proofs.too_large.Tie as tie
@@ -32,7 +32,7 @@ module _ (c : tie.After-key) where
   entry : toZ w64 (ofZ w64 (getD (now (c .before .before .before .args .nets)) (c .key .result) (pos 0))) ≡ net b (key b r)
   entry = net-read b (now (c .before .before .before .args .nets)) (c .key .result) r (c .before .before .before .pre .0) (c .before .before .before .pre .1 .1 .0) (c .key .ensures)
 
-  placed : c .key .result % 256 ≡ place b r
+  placed : c .key .result % places ≡ place b r
   placed = omega (arith, c .key .ensures)
 
 key-requires : tie.Need-key-requires
@@ -40,7 +40,7 @@ key-requires c κs = let s = c .before .before in omega (arith, s .pre .0 .whole
 
 shared-slice-copy-out-size : tie.Need-shared-slice-copy-out-size
 shared-slice-copy-out-size c =
-    omega (arith, c .key .ensures, ap length (c .before .before .before .pre .1 .1 .0), length-tabulate 1024 (net (b c)))
+    omega (arith, c .key .ensures, ap length (c .before .before .before .pre .1 .1 .0), length-tabulate positionCount (net (b c)))
 
 size-requires : tie.Need-size-requires
 size-requires c κs = rw (entry (c .before)) (omega (arith, net-limit (b (c .before)) (c .before .before .before .before .pre .0) (key (b (c .before)) (r (c .before)))))

@@ -3,13 +3,13 @@ use mathlib.Core.Path.{_≡_}
 use Prim.Native.Nat.{_-_}
 use lib.ListN.{length}
 use Rattle.numbers.specs.Table.{tabulate}
-use Rattle.model.specs.Netting.{net, dvp}
+use Rattle.model.specs.Netting.{net, dvp, positionCount}
 use Rattle.netting_times.proofs.net_more.Statement.{statement}
 use Rattle.netting_times.proofs.net_more.Tie as tie
 
 abbrev Inv-loop : tie.InvT-loop
 Inv-loop batch nets₀ dvps₀ times k₀ nets dvps k =
-    ((length nets ≡ 1024) × (length dvps ≡ 1024)) × (nets ≡ tabulate 1024 (net batch)) × (dvps ≡ tabulate 1024 (dvp batch))
+    ((length nets ≡ positionCount) × (length dvps ≡ positionCount)) × (nets ≡ tabulate positionCount (net batch)) × (dvps ≡ tabulate positionCount (dvp batch))
 
 abbrev μ-loop : tie.MeasureT-loop
 μ-loop batch nets₀ dvps₀ times k₀ nets dvps k = times - k

@@ -4,19 +4,20 @@ use Prim.Native.Nat.{ℕ, _+_, _*_}
 use lib.ListN.{getD}
 use Rattle.numbers.specs.Table.{tabulate-ext}
 use Rattle.model.specs.Words.{payload}
-use Rattle.model.specs.DayFile.{classCount, theoretical}
+use Rattle.model.specs.DayFile.{classCount, theoretical, dayWords, seriesAt}
 use borrow.Author.Needs.{needs}
 use Rattle.classes.proofs.prices.theoretical_prices.Statement.{statement}
 use Rattle.classes.proofs.prices.theoretical_prices.Tie as tie
+use Rattle.model.specs.Limits.{pointCount}
 
 returns : tie.Need-returns
 returns c =
     let a = c .before .before .before .args in
     c .ten .ensures
-    ∙ tabulate-ext 10 _ (theoretical (a .day .now) (a .s))
+    ∙ tabulate-ext pointCount _ (theoretical (a .day .now) (a .s))
     (λ k h.
     let n = c .before .class-count .result in
-    let e : 1 + 20 * n + 14 * a .s + 4 + k ≡ 1 + 20 * classCount (a .day .now) + 14 * a .s + (4 + k) = omega (arith, c .before .class-count .ensures) in
+    let e : dayWords n (a .s) + 4 + k ≡ seriesAt (a .day .now) (a .s) + (4 + k) = omega (arith, c .before .class-count .ensures) in
     ap (λ (i : ℕ). payload (getD (a .day .now) i 0)) e)
 
 pub theoretical-prices-spec : {M : Type 1} → statement M

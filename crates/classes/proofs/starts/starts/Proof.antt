@@ -10,14 +10,14 @@ use Rattle.model.specs.DayFile.{seriesCount}
 use Rattle.model.proofs.Nets.{few-classes}
 use Rattle.classes.specs.Tables.{accepted-day}
 use Rattle.classes.specs.Range.{startOf, cut}
-use Rattle.classes.specs.Starts.{reached, next-start, starts-all}
+use Rattle.classes.specs.Starts.{reached, next-start, starts-all, starts as startCount}
 use borrow.Author.Needs.{needs}
 use Rattle.classes.proofs.starts.starts.Statement.{statement}
 use Rattle.classes.proofs.starts.starts.Tie as tie
 
 abbrev Inv-loop : tie.InvT-loop
 Inv-loop day classes table₀ s₀ c₀ table s c =
-    (c ≤ classes) × (table ≡ filled 65 (startOf day) (λ i. seriesCount day) c) × (s ≤ seriesCount day) × (firstBad (reached day c) s ≡ Nothing)
+    (c ≤ classes) × (table ≡ filled startCount (startOf day) (λ i. seriesCount day) c) × (s ≤ seriesCount day) × (firstBad (reached day c) s ≡ Nothing)
 
 abbrev μ-loop : tie.MeasureT-loop
 μ-loop day classes table₀ s₀ c₀ table s c = classes - c
@@ -26,8 +26,8 @@ loop-holds : tie.Need-loop-holds Inv-loop μ-loop
 loop-holds c =
     let d = c .before .before .before .args .day .now in (
       search needs,
-      replicate-tabulate 65 (c .series-count .result) ∙ ap (λ (n : ℕ). tabulate 65 (λ i. n)) (c .series-count .ensures)
-          ∙ filled-none 65 (startOf d) (λ i. seriesCount d),
+      replicate-tabulate startCount (c .series-count .result) ∙ ap (λ (n : ℕ). tabulate startCount (λ i. n)) (c .series-count .ensures)
+          ∙ filled-none startCount (startOf d) (λ i. seriesCount d),
       search needs,
       first-zero (reached d 0),
     )
@@ -44,7 +44,7 @@ loop-again c =
     let d = b .args .day .now in
     let k = l .loop .c in (
       search needs,
-      (λ i. set (l .loop .inv .1 i) k (c .start .ensures i)) ∙ filled-more 65 (startOf d) (λ i. seriesCount d) k (omega (arith, few-classes d (b .pre))),
+      (λ i. set (l .loop .inv .1 i) k (c .start .ensures i)) ∙ filled-more startCount (startOf d) (λ i. seriesCount d) k (omega (arith, few-classes d (b .pre))),
       rw (c .start .ensures) (cut d (b .pre) k .end),
       rw (c .start .ensures) (next-start d (b .pre) k),
     )

@@ -10,6 +10,7 @@ use Rattle.model.specs.Steps.Classes.{worth}
 use Rattle.model.proofs.Bounds.{worth-bound}
 use Rattle.classes.proofs.worth.worth.Statement.{statement}
 use Rattle.classes.proofs.worth.worth.Tie as tie
+use Rattle.model.specs.Limits.{mostRecords}
 
 contracts-requires : tie.Need-contracts-requires
 contracts-requires c κs = (c .before .pre .0, rw (toZ-ofZ (c .before .fits .net)) (c .before .pre .1 .0))
@@ -30,5 +31,5 @@ worth-spec =
     (λ c κs.
     let a = c .before .before in
     let x = a .args in
-    fits-by (product-is c) (omega (arith, worth-bound (x .day .now) (x .s) (x .net) (x .price) 256 (a .pre .1 .0) (a .pre .1 .1))))
+    fits-by (product-is c) (omega (arith, worth-bound (x .day .now) (x .s) (x .net) (x .price) mostRecords (a .pre .1 .0) (a .pre .1 .1))))
     (λ c. told (c .mul .ok) (c .mul .ensures ∙ product-is (c .before))))

@@ -22,6 +22,7 @@ use Rattle.spread.specs.Laws.{total-short-size, total-long-size}
 use Rattle.margin.specs.Groups.{offsetPoint}
 use Rattle.margin.proofs.group.class_amounts.Statement.{statement}
 use Rattle.margin.proofs.group.class_amounts.Tie as tie
+use Rattle.model.specs.Limits.{pointCount}
 
 module _ (x : tie.Start) where
   abbrev d : List ℕ
@@ -61,7 +62,7 @@ offset-requires-2 p κs =
     let w = x .pre .0 in (
       rw (p .offset .ensures) (offset-limit (d x) (w .day .rows) (c x) (r x .class)),
       (λ j h.
-          rw (q .class-points .ensures, getD-tabulate 10 (classPoint (d x) (n x) (k x) (c x)) j (pos 0) h)
+          rw (q .class-points .ensures, getD-tabulate pointCount (classPoint (d x) (n x) (k x) (c x)) j (pos 0) h)
           (class-point (d x) (n x) (w .dvp) (w .day .rows) (w .budget) (k x) (c x) (x .pre .1 .1 .0) (r x .class) j h)),
     )
 
@@ -98,9 +99,9 @@ returns p =
           record {
             at =
                 (o .offset2 .ensures
-                ∙ (λ j. tabulate 10 (λ h. afterOffset (f .offset .ensures j) (getD (w .class-points .ensures j) h (pos 0))))
-                ∙ tabulate-ext 10 _ (λ j. offsetPoint (d x) (n x) (k x) j (c x))
-                (λ j h. ap (afterOffset (offset (d x) (c x))) (getD-tabulate 10 (classPoint (d x) (n x) (k x) (c x)) j (pos 0) h))) i;
+                ∙ (λ j. tabulate pointCount (λ h. afterOffset (f .offset .ensures j) (getD (w .class-points .ensures j) h (pos 0))))
+                ∙ tabulate-ext pointCount _ (λ j. offsetPoint (d x) (n x) (k x) j (c x))
+                (λ j h. ap (afterOffset (offset (d x) (c x))) (getD-tabulate pointCount (classPoint (d x) (n x) (k x) (c x)) j (pos 0) h))) i;
           };
     }
 

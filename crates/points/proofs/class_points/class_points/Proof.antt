@@ -17,6 +17,7 @@ use Rattle.spread.specs.Laws.{short-start, long-start, short-turn, long-turn, s
 use Rattle.points.specs.Series.{pointsTo, points-start, points-turn, points-end, points-size}
 use Rattle.points.proofs.class_points.class_points.Statement.{statement}
 use Rattle.points.proofs.class_points.class_points.Tie as tie
+use Rattle.model.specs.Limits.{pointCount}
 
 abbrev Inv-loop : tie.InvT-loop
 Inv-loop day nets book c a b quantity sum₀ before₀ s₀ sum before s =
@@ -94,7 +95,7 @@ loop-again p =
       search needs,
       search needs,
       p .before .add-series .ensures
-          ∙ ap (λ (t : List ℤ). tabulate 10 (λ j. getD t j (pos 0) +ℤ pointOf (d x) (n x) (k x) (c x) j s)) (l .loop .inv .2)
+          ∙ ap (λ (t : List ℤ). tabulate pointCount (λ j. getD t j (pos 0) +ℤ pointOf (d x) (n x) (k x) (c x) j s)) (l .loop .inv .2)
           ∙ points-turn (d x) (n x) (k x) (c x) (x .args .a) (x .args .b) (r x) s (l .loop .inv .0) h,
       p .add .ensures .0 ∙ ap (λ z. z +ℤ futureShort (d x) (n x) (k x) s) (l .loop .inv .3)
           ∙ short-turn (d x) (n x) (k x) (c x) (x .args .a) (x .args .b) (r x) s (l .loop .inv .0) h,

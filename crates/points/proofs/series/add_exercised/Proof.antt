@@ -6,7 +6,7 @@ use Rattle.model.specs.DayFile.{multiplier, seriesType}
 use Rattle.model.specs.Steps.Classes.{signedByType}
 use Rattle.model.proofs.Limits.{underlying-limit}
 use Rattle.accumulator.specs.Added.{added, is-none}
-use Rattle.points.specs.Series.{exercised-none, by-type-small, projected-limit}
+use Rattle.points.specs.Series.{exercised-none, by-type-small, projected-prices-limit}
 use Rattle.points.proofs.series.add_exercised.Statement.{statement}
 use Rattle.points.proofs.series.add_exercised.Tie as tie
 
@@ -35,7 +35,7 @@ add-requires c κs =
       (
         rw (contracts-is c) (by-type-small (x .day .now) (x .s) (x .net) (seriesType (x .day .now) (x .s)) (p .2)),
         rw (e .1) (underlying-limit (x .day .now) (a .pre .0 .rows) (x .c) (p .0)),
-        rw (e .2) (projected-limit (x .day .now) (a .pre .0 .rows) (x .c) (p .0)),
+        rw (e .2) (projected-prices-limit (x .day .now) (a .pre .0 .rows) (x .c) (p .0)),
       ),
       a .pre .1 .1,
     )

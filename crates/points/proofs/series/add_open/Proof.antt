@@ -5,7 +5,7 @@ use mir.Facts.{toZ-ofZ}
 use Rattle.model.specs.DayFile.{multiplier}
 use Rattle.model.proofs.Limits.{closing-limit}
 use Rattle.accumulator.specs.Added.{added, is-none}
-use Rattle.points.specs.Series.{open-none, contracts-small, theoretical-limit}
+use Rattle.points.specs.Series.{open-none, contracts-small, theoretical-prices-limit}
 use Rattle.points.proofs.series.add_open.Statement.{statement}
 use Rattle.points.proofs.series.add_open.Tie as tie
 
@@ -31,7 +31,7 @@ add-requires c κs =
       (
         rw (contracts-is c) (contracts-small (x .day .now) (x .s) (x .net) (p .1)),
         rw (e .1) (closing-limit (x .day .now) (a .pre .0 .rows) (x .s) (p .0)),
-        rw (e .2) (theoretical-limit (x .day .now) (a .pre .0 .rows) (x .s) (p .0)),
+        rw (e .2) (theoretical-prices-limit (x .day .now) (a .pre .0 .rows) (x .s) (p .0)),
       ),
       a .pre .1 .1,
     )

@@ -7,7 +7,7 @@ use mir.Val.{toZ, ofZ}
 use mir.Facts.{toZ-ofZ}
 use Rattle.numbers.specs.Abs.{told}
 use Rattle.model.specs.Steps.Spread.{spotSize, spreadQuantity}
-use Rattle.model.proofs.Limits.{class-price}
+use Rattle.model.proofs.Limits.{spot-rate-limit, non-spot-rate-limit}
 use Rattle.classes.specs.Tables.{entry}
 use Rattle.spread.specs.Sides.{spreadAmount}
 use Rattle.spread.specs.Laws.{quantity-size, spot-size, spread-parts}
@@ -28,12 +28,11 @@ spot-is c = told (c .spot-size .ok) (c .spot-size .ensures)
 spread-amount-requires : tie.Need-spread-amount-requires
 spread-amount-requires c κs =
     let a = c .before .before .before .before in
-    let x = a .args in
-    let p = class-price (x .day .now) (a .pre .0 .day .rows) (x .c) (a .pre .1 .1 .0 .class) in (
+    let x = a .args in (
       rw (spot-is (c .before .before)) (spot-size (x .day .now) (x .nets .now) (a .pre .0) (x .book) (x .c) (omega arith) (a .pre .1 .1 .0 .class)),
       rw (quantity-is a) (quantity-size (x .day .now) (x .nets .now) (a .pre .0) (x .book) (x .c) (omega arith) (a .pre .1 .1 .0 .class)),
-      rw (c .before .spot-rate .ensures) (p 2 (omega arith) (λ z. omega arith) (λ z. omega arith)),
-      rw (c .non-spot-rate .ensures) (p 3 (omega arith) (λ z. omega arith) (λ z. omega arith)),
+      rw (c .before .spot-rate .ensures) (spot-rate-limit (x .day .now) (a .pre .0 .day .rows) (x .c) (a .pre .1 .1 .0 .class)),
+      rw (c .non-spot-rate .ensures) (non-spot-rate-limit (x .day .now) (a .pre .0 .day .rows) (x .c) (a .pre .1 .1 .0 .class)),
     )
 
 returns : tie.Need-returns

@@ -9,6 +9,7 @@ use Rattle.model.specs.Printed.{lineText, linesText}
 use Rattle.text.specs.Texts.{line-length, lines-none, lines-more, lines-length}
 use Rattle.text.proofs.lines.write_lines.Statement.{statement}
 use Rattle.text.proofs.lines.write_lines.Tie as tie
+use Rattle.model.specs.Report.{wordsALine}
 
 abbrev Inv-loop : tie.InvT-loop
 Inv-loop out₀ at report n end₀ k₀ out end k =
@@ -43,8 +44,8 @@ loop-again c =
     let k = l .loop .k in
     rw (lines-more w k) (
       omega arith,
-      put-then (s .args .at) (linesText w k) (lineText w (3 + 19 * k)) (now (s .args .out)) (l .loop .inv .1) (c .before .before .write-line .ensures)
-          (omega (arith, l .loop .inv .1 .0, lines-length w k, line-length w (3 + 19 * k), s .pre .0)),
+      put-then (s .args .at) (linesText w k) (lineText w (3 + wordsALine * k)) (now (s .args .out)) (l .loop .inv .1) (c .before .before .write-line .ensures)
+          (omega (arith, l .loop .inv .1 .0, lines-length w k, line-length w (3 + wordsALine * k), s .pre .0)),
     )
 
 same-length : tie.Need-same-length Inv-loop μ-loop

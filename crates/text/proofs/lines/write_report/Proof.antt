@@ -12,18 +12,20 @@ use Rattle.model.specs.Printed.{linesText, countText, totalsText, reportText}
 use Rattle.text.specs.Texts.{from-front, lines-length, count-length, totals-length}
 use Rattle.text.proofs.lines.write_report.Statement.{statement}
 use Rattle.text.proofs.lines.write_report.Tie as tie
+use Rattle.model.specs.Limits.{mostLines}
+use Rattle.model.specs.Report.{wordsALine}
 
 counted : (c : tie.After-write-lines-arg) → c .before .before .before .before .before .before .index .result ≡ countIn (now (c .before .before .before .before .before .before .before .before .before .before .before .args .report))
 counted c = c .before .before .before .before .before .before .index .ensures ∙ c .before .before .before .before .before .before .before .payload .ensures ∙ ap payload (c .before .before .before .before .before .before .before .before .word-at .ensures)
 
-few : (c : tie.After-write-lines-arg) → c .before .before .before .before .before .before .index .result ≤ 58
+few : (c : tie.After-write-lines-arg) → c .before .before .before .before .before .before .index .result ≤ mostLines
 few c = omega (arith, counted c, c .before .before .before .before .before .before .before .before .before .before .before .pre .1)
 
 write-lines-requires : tie.Need-write-lines-requires
 write-lines-requires c κs =
     let s = c .before .before .before .before .before .before .before .before .before .before .before in
     let k = c .before .before .before .write-count in
-    let n : c .before .before .before .before .before .before .index .result ≤ 58 = few c in
+    let n : c .before .before .before .before .before .before .index .result ≤ mostLines = few c in
     (omega (arith, k .ensures .0, k .kept .0, count-length (c .before .before .before .before .wide .result), s .pre .0), n)
 
 write-totals-requires : tie.Need-write-totals-requires
@@ -31,7 +33,7 @@ write-totals-requires c κs =
     let s = c .before .before .before .before .before .before .before .before .before .before .before .before .before .before .before in
     let l = c .before .before .before .write-lines in
     let k = c .before .before .before .before .before .before .before .write-count in
-    let n : c .before .before .before .before .before .before .before .before .before .before .index .result ≤ 58 = few (c .before .before .before .before) in
+    let n : c .before .before .before .before .before .before .before .before .before .before .index .result ≤ mostLines = few (c .before .before .before .before) in
     (omega (arith, l .ensures .0, l .kept .0, k .ensures .0, k .kept .0, count-length (c .before .before .before .before .before .before .before .before .wide .result), lines-length (now (s .args .report)) (c .before .before .before .before .before .before .before .before .before .before .index .result), s .pre .0), omega arith)
 
 returns : tie.Need-returns
@@ -46,11 +48,11 @@ returns c =
     let h₁ = few (c .before .before .before .before .before .before .before) in
     let h₂ = count-length k in
     let h₃ = lines-length w n in
-    let h₄ = totals-length w (4 + 19 * n) in
+    let h₄ = totals-length w (4 + wordsALine * n) in
     let h₅ = length-append (countText k) (linesText w n) in
     let b = put-then 0 (countText k) (linesText w n) o (c .before .before .before .before .before .before .before .before .before .before .write-count .ensures) (c .before .before .before .before .before .before .write-lines .ensures) (omega (arith, c .before .before .before .before .before .before .before .before .before .before .write-count .ensures .0, s .pre .0)) in
-    let t = put-then 0 (countText k ++ linesText w n) (totalsText w (4 + 19 * n)) o b (c .before .before .write-totals .ensures) (omega (arith, b .0, s .pre .0)) in
-    rw (← counted (c .before .before .before .before .before .before .before)) (rw e at (from-front (countText k ++ linesText w n ++ totalsText w (4 + 19 * n)) o t))
+    let t = put-then 0 (countText k ++ linesText w n) (totalsText w (4 + wordsALine * n)) o b (c .before .before .write-totals .ensures) (omega (arith, b .0, s .pre .0)) in
+    rw (← counted (c .before .before .before .before .before .before .before)) (rw e at (from-front (countText k ++ linesText w n ++ totalsText w (4 + wordsALine * n)) o t))
 
 pub write-report-spec : {M : Type 1} → statement M
 write-report-spec =

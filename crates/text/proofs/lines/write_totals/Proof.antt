@@ -6,7 +6,7 @@ use lib.ListN.{length-append}
 use denote.Ref.{now}
 use Rattle.numbers.specs.Put.{put-then}
 use Rattle.model.specs.Printed.{amountFields, totalHead, totalsText}
-use Rattle.text.specs.Texts.{fields-length}
+use Rattle.text_fields.specs.Fields.{fields-length}
 use Rattle.text.proofs.lines.write_totals.Statement.{statement}
 use Rattle.text.proofs.lines.write_totals.Tie as tie
 

@@ -10,20 +10,21 @@ use lib.ListN.{length}
 use denote.Ref.{now}
 use Rattle.model.specs.TextReading.{begins, linesRead, countRead}
 use Rattle.numbers.specs.Tests.{and-left, and-right}
-use Rattle.text.specs.ReadingSteps.{part, head-within}
+use Rattle.text_parts.specs.ReadingSteps.{part, head-within}
 use Rattle.text.proofs.reading.read_count.Statement.{statement}
 use Rattle.text.proofs.reading.read_count.Tie as tie
+use Rattle.model.specs.Limits.{mostLines}
 
-test : (c : tie.Then1) → (leb (c .before .before .before .before .args .n) 58 && begins (10 ∷ []) (now (c .before .before .before .before .args .text))) ≡ true
-test c = ap (λ (b : Bool). leb (c .before .before .before .before .args .n) 58 && b) (sym (c .before .has-head .ensures)) ∙ c .if1 .taken
+test : (c : tie.Then1) → (leb (c .before .before .before .before .args .n) mostLines && begins (10 ∷ []) (now (c .before .before .before .before .args .text))) ≡ true
+test c = ap (λ (b : Bool). leb (c .before .before .before .before .args .n) mostLines && b) (sym (c .before .has-head .ensures)) ∙ c .if1 .taken
 
 within : (c : tie.Then1) → 1 ≤ length (now (c .before .before .before .before .args .text))
-within c = let s = c .before .before .before .before in head-within (10 ∷ []) (now (s .args .text)) (and-right (leb (s .args .n) 58) (begins (10 ∷ []) (now (s .args .text))) (test c))
+within c = let s = c .before .before .before .before in head-within (10 ∷ []) (now (s .args .text)) (and-right (leb (s .args .n) mostLines) (begins (10 ∷ []) (now (s .args .text))) (test c))
 
 cast-read-lines : tie.Need-cast-read-lines
 cast-read-lines c =
     let s = c .before .before .before .before in
-    record { fits = omega (arith, leb-true (s .args .n) 58 (and-left (leb (s .args .n) 58) (begins (10 ∷ []) (now (s .args .text))) (test c))) }
+    record { fits = omega (arith, leb-true (s .args .n) mostLines (and-left (leb (s .args .n) mostLines) (begins (10 ∷ []) (now (s .args .text))) (test c))) }
 
 part-read-lines-start : tie.Need-part-read-lines-start
 part-read-lines-start c = let h = within c in search needs

@@ -5,7 +5,7 @@ use lib.ListN.{length}
 use denote.Ref.{now}
 use Rattle.model.specs.Printed.{totalHead}
 use Rattle.model.specs.TextReading.{totalsRead, lastRead}
-use Rattle.text.specs.ReadingSteps.{part, head-within}
+use Rattle.text_parts.specs.ReadingSteps.{part, head-within}
 use Rattle.text.proofs.reading.read_last.Statement.{statement}
 use Rattle.text.proofs.reading.read_last.Tie as tie
 

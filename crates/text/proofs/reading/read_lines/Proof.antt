@@ -5,7 +5,7 @@ use Prim.Native.Nat.{_≤_}
 use lib.ListN.{length}
 use denote.Ref.{now}
 use Rattle.model.specs.TextReading.{linesBytes, lastRead, linesRead}
-use Rattle.text.specs.ReadingSteps.{part, lines-within}
+use Rattle.text_parts.specs.ReadingSteps.{part, lines-within}
 use Rattle.text.proofs.reading.read_lines.Statement.{statement}
 use Rattle.text.proofs.reading.read_lines.Tie as tie
 

@@ -2,7 +2,7 @@ use borrow.Author.Needs.{needs}
 use mathlib.Core.Path.{ap, _∙_}
 use denote.Ref.{now}
 use Rattle.model.specs.TextReading.{countRead, reportRead}
-use Rattle.text.specs.ReadingSteps.{part, FieldTold, field-told}
+use Rattle.text_parts.specs.ReadingSteps.{part, FieldTold, field-told}
 use Rattle.text.proofs.reading.read_report.Statement.{statement}
 use Rattle.text.proofs.reading.read_report.Tie as tie
 

@@ -5,7 +5,7 @@ use lib.ListN.{length}
 use denote.Ref.{now}
 use Rattle.model.specs.Printed.{refusedHead, marginHead}
 use Rattle.model.specs.TextReading.{refusalRead, reportRead, textSays}
-use Rattle.text.specs.ReadingSteps.{part, head-within}
+use Rattle.text_parts.specs.ReadingSteps.{part, head-within}
 use Rattle.text.proofs.reading.read_text.Statement.{statement}
 use Rattle.text.proofs.reading.read_text.Tie as tie
 

@@ -1,0 +1,72 @@
+// Step 6: a class's ten amounts after its offset, ten amounts added to ten, and the largest of ten.
+ghost use mathlib.Core.Path.{_≡_};
+ghost use Prim.Native.Nat.{ℕ, _≤_, _<_};
+ghost use lib.IntN.{pos, natAbs, _+ℤ_};
+ghost use lib.ListN.{getD};
+ghost use Rattle.numbers.specs.Extremes.{largest as largestOf};
+ghost use Rattle.numbers.specs.Table.{tabulate};
+ghost use Rattle.model.specs.Steps.Additional.{afterOffset};
+ghost use Rattle.model.specs.Limits.{worthLimit, pointCount, wholeOffset};
+use accumulator::Points;
+
+// An offset of the whole.
+const WHOLE: i64 = day_file::WHOLE_OFFSET as i64;
+
+// A credit times the offset, a part of the whole, rounded toward zero; a debit whole. The product alone could wrap, so the quotient and the remainder by the whole go apart.
+fn after_offset(share: u32, amount: i64) -> i64
+    requires { ⌜ (share ≤ wholeOffset) × (natAbs amount ≤ worthLimit) ⌝ }
+    ensures { λ r. ⌜ r ≡ afterOffset share amount ⌝ }
+{
+    if amount >= 0 {
+        return amount;
+    }
+    let p = share as i64;
+    (amount / WHOLE) * p + (amount % WHOLE) * p / WHOLE
+}
+
+// Ten amounts of a class after its offset.
+pub fn offset(points: Points, share: u32) -> Points
+    requires { ⌜ share ≤ wholeOffset ⌝ }
+    requires { ⌜ ((k : ℕ) → k < pointCount → natAbs (getD (points .at) k (pos 0)) ≤ worthLimit) ⌝ }
+    ensures { λ r. ⌜ r .at ≡ tabulate pointCount (λ k. afterOffset share (getD (points .at) k (pos 0))) ⌝ }
+{
+    let mut next = points;
+    let mut k: usize = 0;
+    while k < Points::COUNT {
+        let was = next.at[k];
+        next.at[k] = after_offset(share, was);
+        k = k + 1;
+    }
+    next
+}
+
+// Two sets of ten amounts added point by point.
+pub fn plus(points: Points, more: Points) -> Points
+    requires { ⌜ ((k : ℕ) → k < pointCount → natAbs (getD (points .at) k (pos 0)) ≤ worthLimit) ⌝ }
+    requires { ⌜ ((k : ℕ) → k < pointCount → natAbs (getD (more .at) k (pos 0)) ≤ worthLimit) ⌝ }
+    ensures { λ r. ⌜ r .at ≡ tabulate pointCount (λ k. getD (points .at) k (pos 0) +ℤ getD (more .at) k (pos 0)) ⌝ }
+{
+    let mut next = points;
+    let mut k: usize = 0;
+    while k < Points::COUNT {
+        let was = next.at[k];
+        let amount = more.at[k];
+        next.at[k] = amounts::add(was, amount);
+        k = k + 1;
+    }
+    next
+}
+
+// The largest of ten amounts, or 0 if none is positive.
+pub fn largest(points: Points) -> i64
+    ensures { λ r. ⌜ r ≡ largestOf pointCount (λ k. getD (points .at) k (pos 0)) ⌝ }
+{
+    let mut most: i64 = 0;
+    let mut k: usize = 0;
+    while k < Points::COUNT {
+        let amount = points.at[k];
+        most = amounts::larger(most, amount);
+        k = k + 1;
+    }
+    most
+}

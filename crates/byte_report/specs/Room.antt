@@ -1,0 +1,62 @@
+-- A memory of more words than the longest report has serves as one of that length.
+use mathlib.Core.Path.{_≡_, sym, ap, _∙_}
+use mathlib.Core.Bool.{cond}
+use mathlib.Core.List.{List}
+use Prim.Native.Nat.{ℕ, _*_, _/_, _≤_}
+use native.Mathlib.Decide.{decLe}
+use native.Mathlib.Omega.{arith}
+use borrow.Author.Tests.{le-leb, lt-ltb, le-ltb}
+use lib.Dec.{ltb, ltb→lt, nltb→le}
+use lib.ListN.{length, take, drop}
+use lib.Seq.{take-at}
+use Rattle.numbers.specs.Abs.{cond-ind}
+use Rattle.numbers.specs.Put.{put, put-front}
+use Rattle.model.specs.declared.Answer.the-variants.{Report}
+use Rattle.model.proofs.Length.{report-length}
+use Rattle.model.specs.Report.{wordsNeeded, longestReport}
+use Rattle.model.specs.Netting.{net, dvp}
+use Rattle.model.specs.Calls.{verdict, answer, answerOf, roomAnswer, needed, report, memoryAfter}
+use Rattle.model.proofs.Read.{count-small}
+use Rattle.model.proofs.Outcome.{answer-report}
+
+abbrev pub roomOf : ℕ → ℕ
+roomOf len = cond (ltb (len / 4) longestReport) (len / 4) longestReport
+
+pub needed-most : (d b : List ℕ) → needed d b ≤ longestReport
+unfolding wordsNeeded
+needed-most d b = omega (arith, count-small d (net b) (dvp b))
+
+-- .. the same answer
+same-room : (n room : ℕ) → n ≤ longestReport → roomAnswer n (cond (ltb room longestReport) room longestReport) ≡ roomAnswer n room
+same-room n room h = by (decLe longestReport room)
+  where
+    by : Dec (longestReport ≤ room) → roomAnswer n (cond (ltb room longestReport) room longestReport) ≡ roomAnswer n room
+    by (yes p) = rw (le-ltb room longestReport p, le-leb n longestReport h, le-leb n room (omega arith))
+    by (no p) = rw (lt-ltb room longestReport (omega arith))
+
+pub answer-room : (d b : List ℕ) (len : ℕ) → answer d b (roomOf len) ≡ answer d b (len / 4)
+unfolding answer
+answer-room d b len = ap (answerOf (verdict d b)) (same-room (needed d b) (len / 4) (needed-most d b))
+
+pub room-most : (len : ℕ) → roomOf len ≤ longestReport
+room-most len = cond-ind (ltb (len / 4) longestReport) (len / 4) longestReport (λ n. n ≤ longestReport) (λ t. omega (arith, ltb→lt (len / 4) longestReport t)) (λ t. omega arith)
+
+pub room-fits : (len : ℕ) → 4 * roomOf len ≤ len
+room-fits len = cond-ind (ltb (len / 4) longestReport) (len / 4) longestReport (λ n. 4 * n ≤ len) (λ t. omega arith) (λ t. omega (arith, nltb→le (len / 4) longestReport t))
+
+-- ---- a report in its memory
+
+-- an answer that is a report has room for it, and its length is the report's
+pub answer-fits : (d b : List ℕ) (room n : ℕ) → answer d b room ≡ Report n → (n ≤ room) × (n ≡ length (report d b))
+answer-fits d b room n e =
+    let z = answer-report d b room n e in
+    (omega (arith, z .1, z .2), z .1 ∙ sym (report-length d (net b) (net b) (dvp b)))
+
+-- the report's words are the front of the memory after it
+pub report-front : (d b m : List ℕ) (n : ℕ) → answer d b (length m) ≡ Report n → take n (memoryAfter d b m) ≡ report d b
+unfolding memoryAfter
+report-front d b m n e = rw e (take-at (report d b) (drop n m) n (sym (answer-fits d b (length m) n e .1)))
+
+-- the front of what was written
+pub put-take : (w l : List ℕ) (n : ℕ) → length w ≡ n → take n (put 0 w l) ≡ w
+put-take w l n e = ap (take n) (put-front w l) ∙ take-at w (drop (length w) l) n e

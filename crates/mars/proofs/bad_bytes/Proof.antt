@@ -1,7 +1,0 @@
-use borrow.Author.Needs.{needs}
-use mathlib.Core.Path.{refl}
-use Rattle.mars.proofs.bad_bytes.Statement.{statement}
-use Rattle.mars.proofs.bad_bytes.Tie as tie
-
-pub bad-bytes-spec : {M : Type 1} → statement M
-bad-bytes-spec = tie.close (tie.spec (λ c. search needs) (λ c. refl))

@@ -1,0 +1,64 @@
+-- What a call answers and leaves in a lent memory m, for any rows v that it tries and any words w, n of them, that it has to write.
+use mathlib.Core.Path.{_≡_, refl, ap}
+use mathlib.Core.Bool.{Bool, true, false, cond}
+use mathlib.Core.List.{List, _++_}
+use Prim.Native.Nat.{ℕ, _≤_}
+use native.Mathlib.Omega.{arith}
+use borrow.Author.Tests.{le-leb, leb-true}
+use lib.Dec.{leb}
+use lib.ListN.{length, drop, length-append, length-drop}
+use Rattle.model.specs.declared.Answer.{Answer}
+use Rattle.model.specs.declared.Answer.the-variants.{Report, Refused}
+use Rattle.model.specs.declared.Check.{Check}
+use Rattle.model.specs.declared.ReportFault.the-variants.{TooShort}
+use Rattle.model.specs.declared.Verdict.{Verdict}
+use Rattle.model.specs.declared.Verdict.the-variants.{Passed, Failed}
+use Rattle.model.specs.Calls.{verdict, Accepted, report, needed, outcome, answer, written, memoryAfter}
+
+-- all rows pass and there is room
+pub outcome-passed : (v : Verdict) (n room : ℕ) → v ≡ Passed → n ≤ room → outcome v n room ≡ Report n
+outcome-passed v n room e h = rw (e, le-leb n room h)
+
+refused-not : {X : Type 0} (k : Check) (n : ℕ) → Refused k ≡ Report n → X
+refused-not k n e = let z : _≡_ {A = ℕ} 0 1 = cc in absurd (omega arith)
+
+-- and back: an answer that is no refusal has the length of what is written, and room for it
+pub outcome-report : (v : Verdict) (n room k : ℕ) → outcome v n room ≡ Report k → (v ≡ Passed) × (k ≡ n) × (n ≤ room)
+outcome-report Passed n room k e = by (leb n room) refl e
+  where
+    by : (t : Bool) → leb n room ≡ t → cond t (Report n) (Refused (Check.Report TooShort n)) ≡ Report k → (_≡_ {A = Verdict} Passed Passed) × (k ≡ n) × (n ≤ room)
+    by true q z = let s : n ≡ k = cc in (refl, omega (arith, s), leb-true n room q)
+    by false q z = refused-not (Check.Report TooShort n) k z
+outcome-report (Failed c) n room k e = refused-not c k e
+
+module _ (v : Verdict) (n : ℕ) (w m : List ℕ) where
+  pub leaves-words : v ≡ Passed → n ≤ length m → written (outcome v n (length m)) w m ≡ w ++ drop n m
+  leaves-words e h = ap (λ (a : Answer). written a w m) (outcome-passed v n (length m) e h)
+
+  pub leaves-length : length w ≡ n → length (written (outcome v n (length m)) w m) ≡ length m
+  leaves-length e = by (outcome v n (length m)) (λ k q. outcome-report v n (length m) k q)
+    where
+      by : (a : Answer) → ((k : ℕ) → a ≡ Report k → (v ≡ Passed) × (k ≡ n) × (n ≤ length m)) → length (written a w m) ≡ length m
+      by (Report k) h = let z = h k refl in omega (arith, z .1, z .2, e, length-append w (drop k m), length-drop k m)
+      by (Refused c) h = refl
+
+-- a refusal leaves the memory as it was, whatever could have been written
+pub leaves-all : (a : Answer) (k : Check) (w m : List ℕ) → a ≡ Refused k → written a w m ≡ m
+leaves-all a k w m e = ap (λ (x : Answer). written x w m) e
+
+-- ---- the call over words
+
+-- an answer that is a report: the account is accepted, and the memory has room for so many words
+pub answer-report : (d b : List ℕ) (room k : ℕ) → answer d b room ≡ Report k → Accepted d b × (k ≡ needed d b) × (needed d b ≤ room)
+unfolding answer
+answer-report d b room k e = outcome-report (verdict d b) (needed d b) room k e
+
+-- the memory after a call that is accepted, with room
+pub memory-is : (d b m : List ℕ) → Accepted d b → needed d b ≤ length m → memoryAfter d b m ≡ report d b ++ drop (needed d b) m
+unfolding memoryAfter answer
+memory-is d b m a h = leaves-words (verdict d b) (needed d b) (report d b) m a h
+
+-- .. after an answer
+pub memory-of : (d b m : List ℕ) (r : Answer) → r ≡ answer d b (length m) → written r (report d b) m ≡ memoryAfter d b m
+unfolding memoryAfter
+memory-of d b m r e = ap (λ (a : Answer). written a (report d b) m) e
