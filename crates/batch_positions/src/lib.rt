@@ -11,14 +11,14 @@ use batch::exercised;
 use batch::fail;
 use batch::place;
 use batch::record_count;
-use day_file::is_option;
-use day_file::is_security;
 use day_file::series_count;
 use day_file::series_type_at;
 use model::Check;
 use model::PositionFault;
 use model::Verdict;
 use numbers::Found;
+use series_types::is_option;
+use series_types::is_security;
 
 // The type of the series of record r.
 fn type_of(day: &[u32], batch: &[u32], r: usize) -> u32

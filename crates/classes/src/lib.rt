@@ -1,5 +1,2 @@
-// What the steps read: where the series of each class stand, prices at the ten points, and the amounts of positions.
-pub mod positions;
-pub mod prices;
+// Where the series of each class start; in specs, what the steps are given and sums over a class's series.
 pub mod starts;
-pub mod worth;

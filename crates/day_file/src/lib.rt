@@ -2,7 +2,7 @@
 ghost use mathlib.Core.Path.{_≡_};
 ghost use Prim.Native.Nat.{_+_, _*_, _≤_, _<_};
 ghost use lib.ListN.{length};
-ghost use Rattle.model.specs.DayFile.{dayHeader, classCount, seriesCount, classWord, classNumber, spotRate, nonSpotRate, optionRate, futureRate, equityRate, warrantRate, rightsRate, seriesWord, seriesKey, seriesType, seriesClassNumber, isFuture, isCall, isPut, isOption, isSecurity, classAt, seriesAt, seriesWords, isEquity, isWarrant, isRights, isDerivative};
+ghost use Rattle.model.specs.DayFile.{dayHeader, classCount, seriesCount, classWord, classNumber, spotRate, nonSpotRate, optionRate, futureRate, equityRate, warrantRate, rightsRate, seriesWord, seriesKey, seriesType, seriesClassNumber, classAt, seriesAt, seriesWords};
 ghost use Rattle.model.specs.DayFile.{group as groupOf, underlying as underlyingOf, offset as offsetOf, serial as serialOf, expiry as expiryOf, multiplier as multiplierOf, strike as strikeOf, closing as closingOf};
 use words::bits;
 use words::index;
@@ -233,67 +233,4 @@ pub fn series_type_at(day: &[u32], s: usize) -> u32
     ensures { λ r. ⌜ r ≡ seriesType (now (day .entry)) s ⌝ }
 {
     bits(payload(series_word_at(day, s, 0)), 19, 4)
-}
-
-// Type 1.
-pub fn is_future(t: u32) -> bool
-    ensures { λ r. ⌜ r ≡ isFuture t ⌝ }
-{
-    t == 1
-}
-
-// Type 2.
-pub fn is_call(t: u32) -> bool
-    ensures { λ r. ⌜ r ≡ isCall t ⌝ }
-{
-    t == 2
-}
-
-// Type 3.
-pub fn is_put(t: u32) -> bool
-    ensures { λ r. ⌜ r ≡ isPut t ⌝ }
-{
-    t == 3
-}
-
-// A call or a put.
-pub fn is_option(t: u32) -> bool
-    ensures { λ r. ⌜ r ≡ isOption t ⌝ }
-{
-    is_call(t) | is_put(t)
-}
-
-// Type 4.
-pub fn is_equity(t: u32) -> bool
-    ensures { λ r. ⌜ r ≡ isEquity t ⌝ }
-{
-    t == 4
-}
-
-// Type 5.
-pub fn is_warrant(t: u32) -> bool
-    ensures { λ r. ⌜ r ≡ isWarrant t ⌝ }
-{
-    t == 5
-}
-
-// Type 6.
-fn is_rights(t: u32) -> bool
-    ensures { λ r. ⌜ r ≡ isRights t ⌝ }
-{
-    t == 6
-}
-
-// An equity, a warrant or a rights issue.
-pub fn is_security(t: u32) -> bool
-    ensures { λ r. ⌜ r ≡ isSecurity t ⌝ }
-{
-    is_equity(t) | is_warrant(t) | is_rights(t)
-}
-
-// A future or an option.
-pub fn is_derivative(t: u32) -> bool
-    ensures { λ r. ⌜ r ≡ isDerivative t ⌝ }
-{
-    is_future(t) | is_option(t)
 }

@@ -9,9 +9,6 @@ ghost use Rattle.day_series.specs.Presence.{presence};
 use day_file::class_count;
 use day_file::class_number;
 use day_file::expiry;
-use day_file::is_derivative;
-use day_file::is_future;
-use day_file::is_security;
 use day_file::serial;
 use day_file::series_class_number;
 use day_file::series_count;
@@ -22,6 +19,9 @@ use model::Check;
 use model::SeriesFault;
 use model::Verdict;
 use numbers::Found;
+use series_types::is_derivative;
+use series_types::is_future;
+use series_types::is_security;
 
 // Class numbers have six bits.
 const NUMBERS: usize = 64;

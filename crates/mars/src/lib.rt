@@ -7,7 +7,7 @@ ghost use Rattle.model.specs.Bytes.{byteAnswer, bytesAfter};
 ghost use Rattle.model.specs.TextReading.{textSays, textNumber, textValue, totalAfter};
 use byte_report::byte_report;
 use model::TextSays;
-use text::reading::read_text;
+use text_reading::read_text;
 
 // Number × 2^32 + value: 0 and the report's length in words, or the refusal's number and place.
 #[no_mangle]

@@ -11,7 +11,7 @@ ghost use Rattle.classes.specs.Tables.{entry, Given};
 ghost use Rattle.classes.specs.Range.{Range};
 ghost use Rattle.model.specs.DayFile.{classAt};
 ghost use Rattle.minimum.specs.Types.{typeSlots};
-use classes::positions::position_amount;
+use positions::position_amount;
 
 // A slot for each number that a type can have: four bits.
 const TYPE_SLOTS: usize = 16;
@@ -49,16 +49,16 @@ fn minimum_rate(day: &[u32], c: usize, t: u32) -> u32
     requires { ⌜ classAt (c + 1) ≤ length (now day) ⌝ }
     ensures { λ r. ⌜ r ≡ minimumRate (now (day .entry)) c t ⌝ }
 {
-    if day_file::is_future(t) {
+    if series_types::is_future(t) {
         return day_file::future_rate(day, c);
     }
-    if day_file::is_option(t) {
+    if series_types::is_option(t) {
         return day_file::option_rate(day, c);
     }
-    if day_file::is_equity(t) {
+    if series_types::is_equity(t) {
         return day_file::equity_rate(day, c);
     }
-    if day_file::is_warrant(t) {
+    if series_types::is_warrant(t) {
         return day_file::warrant_rate(day, c);
     }
     day_file::rights_rate(day, c)

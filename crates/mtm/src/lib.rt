@@ -8,8 +8,7 @@ ghost use Rattle.model.specs.Steps.Mtm.{mtmOf, mtm as mtmSum};
 ghost use Rattle.model.proofs.Records.{Budget};
 ghost use Rattle.classes.specs.Tables.{entry, Given};
 ghost use Rattle.classes.specs.Range.{Range};
-use classes::positions::position_amount;
-use classes::worth;
+use positions::position_amount;
 
 // Of series s, if it is a security: net × multiplier × closing price − DVP. A net of 0 keeps its DVP.
 fn series_mtm(day: &[u32], nets: &[i64], dvps: &[i64], book: usize, s: usize) -> i64
@@ -18,7 +17,7 @@ fn series_mtm(day: &[u32], nets: &[i64], dvps: &[i64], book: usize, s: usize) ->
     requires { ⌜ (book < 2) × (s < seriesCount (now day)) ⌝ }
     ensures { λ r. ⌜ r ≡ cond (isSecurity (seriesType (now (day .entry)) s)) (mtmOf (now (day .entry)) (entry (now (nets .entry))) (entry (now (dvps .entry))) book s) (pos 0) ⌝ }
 {
-    if !day_file::is_security(day_file::series_type(day, s)) {
+    if !series_types::is_security(day_file::series_type(day, s)) {
         return 0;
     }
     let net = position_amount(nets, book, 0, s);

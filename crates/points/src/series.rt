@@ -15,9 +15,7 @@ ghost use Rattle.spread.specs.Sides.{nonSpreadOf};
 ghost use Rattle.points.specs.Series.{openAdded, exercisedAdded};
 use accumulator::Points;
 use accumulator::Position;
-use classes::positions::position_amount;
-use classes::prices;
-use classes::worth;
+use positions::position_amount;
 use spread::sides::Sides;
 
 // An open position moves from the closing price to the theoretical prices.
@@ -57,7 +55,7 @@ fn counted_net(day: &[u32], s: usize, net: i64, quantity: i64, before: Sides) ->
     requires { ⌜ (s < seriesCount (now day)) × (natAbs quantity ≤ contractsLimit) × (natAbs (before .short) ≤ contractsLimit) × (natAbs (before .long) ≤ contractsLimit) × (natAbs net ≤ contractsLimit) ⌝ }
     ensures { λ r. ⌜ r ≡ cond (isFuture (seriesType (now (day .entry)) s)) (nonSpreadOf quantity (before .short) (before .long) net) net ⌝ }
 {
-    if !day_file::is_future(day_file::series_type(day, s)) {
+    if !series_types::is_future(day_file::series_type(day, s)) {
         return net;
     }
     spread::left::non_spread(quantity, before, net)

@@ -7,8 +7,7 @@ ghost use Rattle.model.specs.DayFile.{classCount, seriesCount, seriesType, isOp
 ghost use Rattle.model.specs.Steps.Premium.{inTheMoney, premiumOf, premium as premiumSum};
 ghost use Rattle.classes.specs.Tables.{entry, Day, Given};
 ghost use Rattle.classes.specs.Range.{Range};
-use classes::positions::position_amount;
-use classes::worth;
+use positions::position_amount;
 
 // Underlying − strike for a call, strike − underlying for a put, negative where it is so.
 fn in_the_money(day: &[u32], c: usize, s: usize) -> i64
@@ -30,7 +29,7 @@ fn series_premium(day: &[u32], nets: &[i64], book: usize, c: usize, s: usize) ->
     requires { ⌜ (book < 2) × (c < classCount (now day)) × (s < seriesCount (now day)) ⌝ }
     ensures { λ r. ⌜ r ≡ cond (isOption (seriesType (now (day .entry)) s)) (premiumOf (now (day .entry)) (entry (now (nets .entry))) book c s) (pos 0) ⌝ }
 {
-    if !day_file::is_option(day_file::series_type(day, s)) {
+    if !series_types::is_option(day_file::series_type(day, s)) {
         return 0;
     }
     let net = position_amount(nets, book, 0, s);

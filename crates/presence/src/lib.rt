@@ -11,8 +11,8 @@ ghost use Rattle.classes.specs.Tables.{entry};
 ghost use Rattle.classes.specs.Starts.{startTable, starts};
 ghost use Rattle.presence.specs.Presence.{heldAt, groupFlags};
 ghost use Rattle.model.specs.Limits.{mostSeries};
-use classes::positions::position_amount;
 use classes::starts::STARTS;
+use positions::position_amount;
 
 // A flag for each number that a class's group can have: five bits.
 pub const GROUP_FLAGS: usize = 32;

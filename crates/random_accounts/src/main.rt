@@ -1,5 +1,5 @@
 // Runs the call over words on the accounts of cases.w32 and prints each answer; what must come out is the reckoner's.
-ghost use Prim.Native.Nat.{_*_, _≤_, min};
+ghost use Prim.Native.Nat.{_*_, _≤_};
 ghost use mathlib.Core.Path.{_≡_};
 ghost use mathlib.Core.List.{_++_};
 ghost use lib.ListN.{length, take, drop};
@@ -11,20 +11,11 @@ ghost use Rattle.program.specs.Files.{callText};
 ghost use Rattle.text.specs.Room.{longestText};
 ghost use Rattle.random_accounts.specs.Fronts.{front, behind};
 use byte_report::LONGEST_REPORT;
+use case_lengths::at_most;
+use case_lengths::lengths_within;
 use libc::STDOUT_FILENO;
 use text::lines::LONGEST_TEXT;
-use words::index;
 use words::word_at;
-
-// A length of the file, held to what a memory takes.
-fn at_most(n: u32, most: usize) -> usize
-    ensures { λ r. ⌜ r ≡ min n most ⌝ }
-{
-    if index(n) < most {
-        return index(n);
-    }
-    most
-}
 
 // The file's next bytes as words; the number of bytes that it gave.
 fn read_part(fd: i32, bytes: &mut [u8], words: &mut [u32]) -> usize
@@ -73,9 +64,10 @@ fn print_fronts(
     ensures { λ _. ⌜ now (memory .exit) ≡ memoryAfter (front (now (lengths .entry)) 0 (now (day .entry))) (front (now (lengths .entry)) 1 (now (batch .entry))) (front (now (lengths .entry)) 2 (now (memory .entry))) ++ behind (now (lengths .entry)) 2 (now (memory .entry)) ⌝ }
     ensures { λ _. ⌜ now (out .exit) ≡ put 0 (callText (front (now (lengths .entry)) 0 (now (day .entry))) (front (now (lengths .entry)) 1 (now (batch .entry))) (front (now (lengths .entry)) 2 (now (memory .entry)))) (now (out .entry)) ⌝ }
 {
-    let d = at_most(word_at(lengths, 0), day.len());
-    let b = at_most(word_at(lengths, 1), batch.len());
-    let m = at_most(word_at(lengths, 2), memory.len());
+    let held = lengths_within(lengths, day.len(), batch.len(), memory.len());
+    let d = held.day;
+    let b = held.batch;
+    let m = held.memory;
     print_case(i, &day[..d], &batch[..b], &mut memory[..m], out);
 }
 

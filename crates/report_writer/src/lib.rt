@@ -22,26 +22,9 @@ use line_words::write_headed_at;
 use model::Answer;
 use model::Check;
 use model::ReportFault;
+use report_head::line_count;
+use report_head::write_maps;
 use words::index;
-
-// The number of ones in the two maps.
-fn line_count(ordinary: u32, fail: u32) -> u32
-    requires { ⌜ (ordinary < 2 ^ groupCount) × (fail < 2 ^ groupCount) ⌝ }
-    ensures { λ r. ⌜ (r ≡ ones ordinary + ones fail) × (r ≤ mostLines) ⌝ }
-{
-    u32::count_ones(ordinary) + u32::count_ones(fail)
-}
-
-// Header and maps.
-fn write_maps(memory: &mut [u32], count: u32, ordinary: u32, fail: u32)
-    requires { ⌜ 3 ≤ length (now memory) ⌝ }
-    requires { ⌜ (count < 2 ^ groupCount) × (ordinary < 2 ^ groupCount) × (fail < 2 ^ groupCount) ⌝ }
-    ensures { λ _. ⌜ now (memory .exit) ≡ put 0 (word 1 count ∷ word 4 ordinary ∷ word 4 fail ∷ []) (now (memory .entry)) ⌝ }
-{
-    memory[0] = words::word(1, count);
-    memory[1] = words::word(4, ordinary);
-    memory[2] = words::word(4, fail);
-}
 
 // The report over the front of a memory that is long enough.
 fn write_report(

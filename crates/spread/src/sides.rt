@@ -8,7 +8,7 @@ ghost use Rattle.model.specs.Limits.{contractsLimit};
 ghost use Rattle.classes.specs.Tables.{entry, Given};
 ghost use Rattle.classes.specs.Range.{Range};
 ghost use Rattle.spread.specs.Sides.{futureShort, futureLong};
-use classes::positions::position_amount;
+use positions::position_amount;
 
 // The two sides of some futures: contracts net short and net long.
 pub struct Sides {
@@ -43,7 +43,7 @@ impl Sides {
         requires { ⌜ (natAbs (self .short) ≤ contractsLimit) × (natAbs (self .long) ≤ contractsLimit) ⌝ }
         ensures { λ r. ⌜ (r .short ≡ self .short +ℤ futureShort (now (day .entry)) (entry (now (nets .entry))) book s) × (r .long ≡ self .long +ℤ futureLong (now (day .entry)) (entry (now (nets .entry))) book s) ⌝ }
     {
-        if !day_file::is_future(day_file::series_type(day, s)) {
+        if !series_types::is_future(day_file::series_type(day, s)) {
             return self;
         }
         let z = position_amount(nets, book, 0, s);

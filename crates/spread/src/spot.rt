@@ -6,7 +6,7 @@ ghost use Rattle.model.specs.Steps.Spread.{spotSize};
 ghost use Rattle.classes.specs.Tables.{entry, Day, Given};
 ghost use Rattle.classes.specs.Range.{Range};
 ghost use Rattle.spread.specs.Sides.{heldHere};
-use classes::positions::position_amount;
+use positions::position_amount;
 
 // Series s of the class is a future with a non-zero net.
 fn held_future(day: &[u32], nets: &[i64], book: usize, s: usize) -> bool
@@ -14,7 +14,7 @@ fn held_future(day: &[u32], nets: &[i64], book: usize, s: usize) -> bool
     requires { ⌜ (book < 2) × (s < seriesCount (now day)) ⌝ }
     ensures { λ r. ⌜ r ≡ heldHere (now (day .entry)) (entry (now (nets .entry))) book s ⌝ }
 {
-    if !day_file::is_future(day_file::series_type(day, s)) {
+    if !series_types::is_future(day_file::series_type(day, s)) {
         return false;
     }
     amounts::not_zero(position_amount(nets, book, 0, s))
