@@ -1,6 +1,6 @@
 // Rows 23 to 26: each record of a batch against its series, for any day file.
 ghost use mathlib.Core.Path.{_≡_};
-ghost use Prim.Native.Nat.{_+_, _*_, _≤_};
+ghost use Prim.Native.Nat.{_+_, _≤_};
 ghost use lib.ListN.{length};
 ghost use Rattle.numbers.specs.Scan.{firstBad};
 ghost use Rattle.model.specs.DayFile.{seriesType};

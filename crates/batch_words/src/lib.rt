@@ -1,6 +1,6 @@
 // Row 22: the words of every record of a batch.
 ghost use mathlib.Core.Path.{_≡_};
-ghost use Prim.Native.Nat.{_+_, _*_, _≤_, _<_};
+ghost use Prim.Native.Nat.{_+_, _≤_, _<_};
 ghost use lib.ListN.{length};
 ghost use Rattle.numbers.specs.Scan.{firstBad};
 ghost use Rattle.model.specs.Words.{badWord};

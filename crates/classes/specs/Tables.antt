@@ -1,12 +1,12 @@
 -- What the functions of the steps are given: an accepted day file, and a table of nets by position key that keeps within a budget.
 use mathlib.Core.List.{List}
 use mathlib.Core.Path.{_≡_}
-use Prim.Native.Nat.{ℕ, _+_, _*_, _≤_, _<_}
+use Prim.Native.Nat.{ℕ, _+_, _≤_, _<_}
 use native.Mathlib.Omega.{arith}
 use lib.IntN.{ℤ}
 use lib.ListN.{length}
 pub use Rattle.numbers.specs.Table.{entry}
-use Rattle.model.specs.DayFile.{classCount, seriesCount, classAt, dayWords, seriesAt}
+use Rattle.model.specs.DayFile.{classCount, seriesCount, classAt, dayWords}
 use Rattle.model.proofs.Accepted.{DayRows}
 use Rattle.model.proofs.Limits.{day-length}
 use Rattle.model.proofs.Nets.{few-series, few-classes}
@@ -29,10 +29,6 @@ pub record Given (d : List ℕ) (nets : List ℤ) : Type 0 where
 -- the record of a class is inside
 pub class-inside : {d : List ℕ} → Day d → {c : ℕ} → c < classCount d → classAt (c + 1) ≤ length d
 class-inside w h = omega (arith, w .whole)
-
--- and of a series
-pub series-inside : {d : List ℕ} → Day d → {s : ℕ} → s < seriesCount d → seriesAt d (s + 1) ≤ length d
-series-inside w h = omega (arith, w .whole)
 
 -- what accepted files give
 pub accepted-day : (d : List ℕ) → DayRows d → Day d

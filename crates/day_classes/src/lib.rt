@@ -1,6 +1,6 @@
 // Rows 13 and 14: the order of the classes, and their offsets by group.
 ghost use mathlib.Core.Path.{_≡_};
-ghost use Prim.Native.Nat.{_+_, _*_, _≤_, _<_};
+ghost use Prim.Native.Nat.{_+_, _≤_, _<_};
 ghost use lib.ListN.{length};
 ghost use Rattle.numbers.specs.Scan.{firstBad};
 ghost use Rattle.model.specs.DayFile.{classCount, seriesCount, classAt, dayWords};

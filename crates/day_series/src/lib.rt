@@ -1,6 +1,6 @@
 // Rows 15 to 17: the class, the order and the type of the series.
 ghost use mathlib.Core.Path.{_≡_};
-ghost use Prim.Native.Nat.{_+_, _*_, _≤_, _<_};
+ghost use Prim.Native.Nat.{_+_, _≤_, _<_};
 ghost use lib.ListN.{length};
 ghost use Rattle.numbers.specs.Scan.{firstBad};
 ghost use Rattle.model.specs.DayFile.{classCount, seriesCount, classAt, seriesAt, dayWords};

@@ -1,6 +1,6 @@
 // Row 12: the words of every record, classes then series.
 ghost use mathlib.Core.Path.{_≡_};
-ghost use Prim.Native.Nat.{_+_, _*_, _-_, _≤_, _<_};
+ghost use Prim.Native.Nat.{_+_, _-_, _≤_, _<_};
 ghost use lib.ListN.{length};
 ghost use Rattle.numbers.specs.Scan.{firstBad, anyBelow};
 ghost use Rattle.model.specs.Words.{badPrice};

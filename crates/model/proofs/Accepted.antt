@@ -3,13 +3,11 @@ use mathlib.Core.Path.{_≡_, refl}
 use mathlib.Core.Bool.{Bool, true, false}
 use mathlib.Core.List.{List}
 use Prim.Native.Nat.{ℕ, _+_, _<_}
-use native.Mathlib.Omega.{arith}
 use Rattle.numbers.specs.declared.Found.{Found}
 use Rattle.numbers.specs.declared.Found.the-variants.{At, Nothing}
 use Rattle.numbers.specs.Scan.{firstBad, first-clear, first-none}
 use Rattle.model.specs.declared.Check.{Check}
-use Rattle.model.specs.declared.Verdict.{Verdict}
-use Rattle.model.specs.declared.Verdict.the-variants.{Passed, Failed}
+use Rattle.model.specs.declared.Verdict.the-variants.{Passed}
 use Rattle.model.specs.Rows.{plainRow, foundRow, recordRow}
 use Rattle.model.specs.DayFile.{classCount, seriesCount}
 use Rattle.model.specs.DayChecks.{row10, row11, row12, row13, row14, row15, row16, row17, classCheck, seriesCheck, recordCheck, dayCheck}

@@ -2,12 +2,12 @@
 use mathlib.Core.Path.{_≡_, refl, sym, ap, _∙_}
 use mathlib.Core.Bool.{Bool, true, false, not, _&&_, _||_, true≢false}
 use mathlib.Core.List.{List}
-use Prim.Native.Nat.{ℕ, suc, _+_, _*_, _-_, _%_, _^_, _≤_, _<_}
+use Prim.Native.Nat.{ℕ, suc, _+_, _*_, _-_, _^_, _≤_, _<_}
 use native.Mathlib.Decide.{le-ind, decLt}
 use native.Mathlib.Omega.{arith}
-use borrow.Author.Tests.{eqb-true, ltb-true, ltb-false, lt-ltb, le-leb, not-false}
-use lib.Dec.{leb, ltb, eqb}
-use native.Mathlib.Nat.{mod-eq-of-lt, le-of-eq}
+use borrow.Author.Tests.{eqb-true, ltb-true, ltb-false, lt-ltb, not-false}
+use lib.Dec.{ltb, eqb}
+use native.Mathlib.Nat.{le-of-eq}
 use lib.IntN.{ℤ}
 use Rattle.numbers.specs.Fields.{four-fields}
 use Rattle.numbers.specs.declared.Found.{Found}

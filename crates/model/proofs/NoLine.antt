@@ -1,6 +1,6 @@
 -- A group without a line in a book has six zero amounts there: dropping the line loses nothing.
 use mathlib.Core.Path.{_≡_, refl, ap, _∙_}
-use mathlib.Core.Bool.{Bool, true, false, _&&_, _||_, cond}
+use mathlib.Core.Bool.{false, _&&_, _||_}
 use mathlib.Core.List.{List, [], _∷_}
 use Prim.Native.Nat.{ℕ, zero, suc, _+_, _<_}
 use native.Mathlib.Omega.{arith}
@@ -12,7 +12,7 @@ use Rattle.numbers.specs.declared.Found.the-variants.{At, Nothing}
 use Rattle.numbers.specs.Abs.{cond-ind}
 use Rattle.numbers.specs.Scan.{firstBad, first-clear}
 use Rattle.numbers.specs.Lists.{nothing-hit}
-use Rattle.numbers.specs.Sums.{sumTo-zero, sumTo-ext, sumWhere, sumWhere-zeros}
+use Rattle.numbers.specs.Sums.{sumTo-zero, sumTo-ext, sumWhere-zeros}
 use Rattle.numbers.specs.Extremes.{minZ, maxZ, absZ, largest, largest-ext}
 use Rattle.model.specs.DayFile.{classCount, group, spotRate, nonSpotRate, offset, seriesCount, seriesType, seriesGroup, multiplier, closing, isFuture}
 use Rattle.model.specs.Netting.{position}

@@ -2,7 +2,7 @@
 use mathlib.Core.Path.{_≡_, sym, ap, _∙_}
 use mathlib.Core.Bool.{Bool, false, not, _||_}
 use mathlib.Core.List.{List, _∷_, Perm}
-use Prim.Native.Nat.{ℕ, _+_, _*_, _<_}
+use Prim.Native.Nat.{ℕ, _*_, _<_}
 use lib.Dec.{eqb, ltb}
 use lib.IntN.{ℤ, natAbs}
 use lib.ListN.{length, getD}

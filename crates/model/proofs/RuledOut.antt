@@ -4,7 +4,6 @@ use mathlib.Core.List.{List, _++_}
 use Prim.Native.Nat.{ℕ, _+_, _*_, _^_, _≤_, _<_}
 use native.Mathlib.Omega.{arith}
 use lib.Dec.{lit≤}
-use lib.IntN.{pos}
 use lib.ListN.{length, getD, take, drop}
 use Rattle.model.specs.declared.Answer.{Answer}
 use Rattle.model.specs.declared.Answer.the-variants.{Report, Refused}
@@ -15,7 +14,7 @@ use Rattle.model.specs.Batch.{recordCount}
 use Rattle.model.specs.Calls.{Accepted, answer, needed, memoryAfter}
 use Rattle.model.specs.Reading.{countIn}
 use Rattle.model.specs.Computing.{everything}
-use Rattle.model.specs.Accounts.{batchFile, positionRecord, minus}
+use Rattle.model.specs.Accounts.{batchFile}
 use Rattle.model.specs.Figures.{share, large, largeHeld}
 use Rattle.model.specs.Mistakes.{twoRecords}
 use Rattle.model.proofs.TwoGroups.{day, before, removed, memory, before-accepted, removed-accepted, before-room, removed-room}

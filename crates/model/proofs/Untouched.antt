@@ -14,7 +14,7 @@ use Rattle.model.specs.declared.ReportFault.the-variants.{TooShort}
 use Rattle.model.specs.declared.Verdict.{Verdict}
 use Rattle.model.specs.declared.Verdict.the-variants.{Passed, Failed}
 use Rattle.model.specs.Netting.{net, dvp}
-use Rattle.model.specs.Calls.{verdict, answer, answerOf, roomAnswer, needed, report, memoryAfter, written}
+use Rattle.model.specs.Calls.{verdict, answer, answerOf, roomAnswer, needed, report, memoryAfter}
 use Rattle.model.specs.Bytes.{wordsOf, bytesOf, bytesCheck, byteAnswer, bytesAfter, writtenBytes}
 use Rattle.model.proofs.Length.{report-length}
 use Rattle.model.proofs.Outcome.{leaves-length, leaves-all}

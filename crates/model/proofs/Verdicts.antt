@@ -12,7 +12,7 @@ use Rattle.numbers.specs.Scan.{firstBad}
 use Rattle.model.specs.declared.Check.{Check}
 use Rattle.model.specs.declared.Verdict.{Verdict}
 use Rattle.model.specs.declared.Verdict.the-variants.{Passed, Failed}
-use Rattle.model.specs.Rows.{_orElse_, tried, plainRow, recordRow}
+use Rattle.model.specs.Rows.{tried, plainRow, recordRow}
 use Rattle.model.specs.declared.Answer.{Answer}
 use Rattle.model.specs.declared.Answer.the-variants.{Refused}
 use Rattle.model.specs.Calls.{answerOf}

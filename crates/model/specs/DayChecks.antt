@@ -1,7 +1,7 @@
 -- The checks of a day file: rows 10 to 17, and the first that refuses. d is the list of its words, c a class, s a series.
 use mathlib.Core.Bool.{Bool, not, _&&_, _||_, cond}
 use mathlib.Core.List.{List, [], _∷_}
-use Prim.Native.Nat.{ℕ, _+_, _*_, _-_}
+use Prim.Native.Nat.{ℕ, _+_, _-_}
 use lib.Dec.{leb, ltb, eqb}
 use lib.ListN.{length}
 use Rattle.numbers.specs.Scan.{hit, anyBelow}

@@ -1,7 +1,7 @@
 -- What a batch must have passed to be netted: its length, and the limits of its quantities and amounts (rows 20 to 22).
 use mathlib.Core.Path.{_≡_}
 use mathlib.Core.List.{List}
-use Prim.Native.Nat.{ℕ, _+_, _*_, _≤_, _<_}
+use Prim.Native.Nat.{ℕ, _≤_, _<_}
 use lib.IntN.{natAbs}
 use lib.ListN.{length}
 use Rattle.model.specs.Limits.{quantityLimit, dvpAmountLimit, mostRecords}

@@ -4,7 +4,7 @@ ghost use Prim.Native.Nat.{_+_, _*_, _≤_};
 ghost use lib.ListN.{length, getD};
 ghost use Rattle.numbers.specs.Table.{tabulate};
 ghost use Rattle.model.specs.Words.{payload as payloadOf};
-ghost use Rattle.model.specs.DayFile.{classCount, theoretical, projected, classAt, seriesAt};
+ghost use Rattle.model.specs.DayFile.{theoretical, projected, classAt, seriesAt};
 ghost use Rattle.model.specs.Limits.{pointCount};
 use accumulator::Points;
 use day_file::CLASS_WORDS;

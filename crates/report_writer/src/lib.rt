@@ -1,18 +1,15 @@
 // The whole report of an accepted account: header, maps, lines and totals; and row 40.
 ghost use mathlib.Core.Path.{_≡_};
-ghost use mathlib.Core.List.{_∷_, []};
-ghost use Prim.Native.Nat.{_+_, _*_, _^_, _≤_, _<_};
+ghost use Prim.Native.Nat.{_+_, _*_, _≤_, _<_};
 ghost use lib.Count.{ones};
 ghost use lib.ListN.{length};
 ghost use Rattle.numbers.specs.Put.{put};
 ghost use Rattle.model.specs.Calls.{roomAnswer, written};
 ghost use Rattle.model.specs.Report.{bookMap, reportWords, wordsNeeded, wordsFor};
-ghost use Rattle.model.specs.Words.{word};
 ghost use Rattle.model.proofs.Accepted.{DayRows};
 ghost use Rattle.model.proofs.Records.{Budget};
 ghost use Rattle.classes.specs.Starts.{startTable};
 ghost use Rattle.classes.specs.Tables.{entry};
-ghost use Rattle.model.specs.Limits.{groupCount, mostLines};
 use books::book::write_book;
 use books::maps::book_map;
 use classes::starts::STARTS;

@@ -3,7 +3,7 @@ ghost use mathlib.Core.Path.{_≡_};
 ghost use Prim.Native.Nat.{_+_, _*_, _≤_, _<_, _^_};
 ghost use lib.IntN.{pos, natAbs, _*ℤ_};
 ghost use lib.ListN.{length};
-ghost use Rattle.model.specs.DayFile.{classCount, multiplier, seriesAt};
+ghost use Rattle.model.specs.DayFile.{multiplier, seriesAt};
 ghost use Rattle.model.specs.Steps.Classes.{worth as worthOf, signedByType};
 ghost use Rattle.model.specs.Limits.{contractsLimit, priceLimit};
 

@@ -1,6 +1,6 @@
 use borrow.Author.Needs.{needs}
 use mathlib.Core.Path.{ap}
-use Prim.Native.Nat.{ℕ, _+_, _*_}
+use Prim.Native.Nat.{ℕ, _+_}
 use lib.ListN.{getD}
 use Rattle.day_file.proofs.series_word.Statement.{statement}
 use Rattle.day_file.proofs.series_word.Tie as tie

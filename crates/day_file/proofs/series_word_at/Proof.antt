@@ -1,6 +1,6 @@
 use borrow.Author.Needs.{needs}
 use mathlib.Core.Path.{ap, _∙_}
-use Prim.Native.Nat.{ℕ, _+_, _*_}
+use Prim.Native.Nat.{ℕ, _+_}
 use lib.ListN.{getD}
 use Rattle.day_file.proofs.series_word_at.Statement.{statement}
 use Rattle.day_file.proofs.series_word_at.Tie as tie

@@ -1,6 +1,6 @@
 use native.Mathlib.Omega.{arith}
 use mathlib.Core.Path.{_≡_, ap, _∙_}
-use Prim.Native.Nat.{ℕ, _+_, _*_}
+use Prim.Native.Nat.{ℕ, _+_}
 use lib.ListN.{getD}
 use Rattle.numbers.specs.Table.{tabulate-ext}
 use Rattle.model.specs.Words.{payload}

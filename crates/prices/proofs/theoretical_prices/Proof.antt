@@ -1,10 +1,10 @@
 use native.Mathlib.Omega.{arith}
 use mathlib.Core.Path.{_≡_, ap, _∙_}
-use Prim.Native.Nat.{ℕ, _+_, _*_}
+use Prim.Native.Nat.{ℕ, _+_}
 use lib.ListN.{getD}
 use Rattle.numbers.specs.Table.{tabulate-ext}
 use Rattle.model.specs.Words.{payload}
-use Rattle.model.specs.DayFile.{classCount, theoretical, dayWords, seriesAt}
+use Rattle.model.specs.DayFile.{theoretical, dayWords, seriesAt}
 use borrow.Author.Needs.{needs}
 use Rattle.prices.proofs.theoretical_prices.Statement.{statement}
 use Rattle.prices.proofs.theoretical_prices.Tie as tie
