@@ -2,14 +2,13 @@
 use mathlib.Core.Path.{_≡_, sym, ap, _∙_}
 use mathlib.Core.Bool.{cond}
 use mathlib.Core.List.{List}
-use Prim.Native.Nat.{ℕ, _*_, _/_, _≤_}
+use Prim.Native.Nat.{ℕ, _/_, _≤_}
 use native.Mathlib.Decide.{decLe}
 use native.Mathlib.Omega.{arith}
 use borrow.Author.Tests.{le-leb, lt-ltb, le-ltb}
-use lib.Dec.{ltb, ltb→lt, nltb→le}
+use lib.Dec.{ltb}
 use lib.ListN.{length, take, drop}
 use lib.Seq.{take-at}
-use Rattle.numbers.specs.Abs.{cond-ind}
 use Rattle.numbers.specs.Put.{put, put-front}
 use Rattle.model.specs.declared.Answer.the-variants.{Report}
 use Rattle.model.proofs.Length.{report-length}
@@ -18,9 +17,7 @@ use Rattle.model.specs.Netting.{net, dvp}
 use Rattle.model.specs.Calls.{verdict, answer, answerOf, roomAnswer, needed, report, memoryAfter}
 use Rattle.model.proofs.Read.{count-small}
 use Rattle.model.proofs.Outcome.{answer-report}
-
-abbrev pub roomOf : ℕ → ℕ
-roomOf len = cond (ltb (len / 4) longestReport) (len / 4) longestReport
+use Rattle.byte_room.specs.Room.{roomOf}
 
 pub needed-most : (d b : List ℕ) → needed d b ≤ longestReport
 unfolding wordsNeeded
@@ -37,12 +34,6 @@ same-room n room h = by (decLe longestReport room)
 pub answer-room : (d b : List ℕ) (len : ℕ) → answer d b (roomOf len) ≡ answer d b (len / 4)
 unfolding answer
 answer-room d b len = ap (answerOf (verdict d b)) (same-room (needed d b) (len / 4) (needed-most d b))
-
-pub room-most : (len : ℕ) → roomOf len ≤ longestReport
-room-most len = cond-ind (ltb (len / 4) longestReport) (len / 4) longestReport (λ n. n ≤ longestReport) (λ t. omega (arith, ltb→lt (len / 4) longestReport t)) (λ t. omega arith)
-
-pub room-fits : (len : ℕ) → 4 * roomOf len ≤ len
-room-fits len = cond-ind (ltb (len / 4) longestReport) (len / 4) longestReport (λ n. 4 * n ≤ len) (λ t. omega arith) (λ t. omega (arith, nltb→le (len / 4) longestReport t))
 
 -- ---- a report in its memory
 

@@ -1,42 +1,19 @@
 // The byte call: the report of two files given as bytes, words low byte first, into a memory of bytes.
 ghost use mathlib.Core.Path.{_≡_};
 ghost use Prim.Native.Nat.{_*_, _/_, _≤_};
-ghost use lib.ListN.{length, take};
-ghost use Rattle.numbers.specs.Put.{put};
-ghost use Rattle.model.specs.Bytes.{bytesOf, byteAnswer, bytesAfter, wordsOf, writtenBytes, longestDay, longestBatch};
+ghost use lib.ListN.{length};
+ghost use Rattle.model.specs.Bytes.{byteAnswer, bytesAfter, wordsOf, writtenBytes, longestDay, longestBatch};
 ghost use Rattle.model.specs.Calls.{answer as answerTo, report as reportOf};
-ghost use Rattle.byte_report.specs.Room.{roomOf};
+ghost use Rattle.byte_room.specs.Room.{roomOf};
 ghost use Rattle.model.specs.Report.{longestReport};
 use byte_check::LONGEST_BATCH;
 use byte_check::LONGEST_DAY;
 use byte_check::check_bytes;
-use line_words::FRAME_WORDS;
-use line_words::LINE_WORDS;
-use line_words::MOST_LINES;
+use byte_room::LONGEST_REPORT;
+use byte_room::encode_front;
+use byte_room::room;
 use model::Answer;
 use model::Verdict;
-
-// The words of the longest report.
-pub const LONGEST_REPORT: usize = FRAME_WORDS + LINE_WORDS * MOST_LINES;
-
-// The smaller of the memory's whole words and the longest report.
-fn room(len: usize) -> usize
-    ensures { λ r. ⌜ r ≡ roomOf len ⌝ }
-{
-    let words = len / 4;
-    if words < LONGEST_REPORT {
-        return words;
-    }
-    LONGEST_REPORT
-}
-
-// The bytes of the first n words.
-fn encode_front(words: &[u32], n: usize, memory: &mut [u8])
-    requires { ⌜ (n ≤ length (now words)) × (4 * n ≤ length (now memory)) × (n ≤ 1000000) ⌝ }
-    ensures { λ _. ⌜ now (memory .exit) ≡ put 0 (bytesOf (take n (now (words .entry)))) (now (memory .entry)) ⌝ }
-{
-    byte_words::encode(&words[..n], memory);
-}
 
 // The report of two files of words, its words in `words` and then its bytes in the memory.
 fn report_words(day: &[u32], batch: &[u32], words: &mut [u32], memory: &mut [u8]) -> Answer

@@ -1,12 +1,11 @@
--- Demand 3, said of the memories that two calls leave.
+-- Demand 3, said of the memories that two calls over words leave.
 use mathlib.Core.Path.{_≡_}
 use mathlib.Core.List.{List}
-use Prim.Native.Nat.{ℕ, _/_, _≤_, _<_}
+use Prim.Native.Nat.{ℕ, _≤_, _<_}
 use lib.ListN.{length}
 use Rattle.model.specs.declared.Answer.{Answer}
-use Rattle.model.specs.Bytes.{wordsOf, byteAnswer, bytesAfter}
 use Rattle.model.specs.Calls.{Accepted, answer, memoryAfter, needed}
-use Rattle.model.specs.Locality.{Edit, LocalChange, Reordered, ByteAccepted, ByteReordered}
+use Rattle.model.specs.Locality.{Edit, LocalChange, Reordered}
 use Rattle.model.proofs.Demand.{demand3}
 use Rattle.model.specs.Limits.{groupCount}
 
@@ -20,14 +19,6 @@ LocalEdit d b₁ b₂ m₁ m₂ w₁ w₂ =
     → needed d b₁ ≤ length m₁ → needed d b₂ ≤ length m₂
     → LocalChange w₁ w₂ g k
 
--- the same of bytes, read as words
-abbrev pub LocalByteEdit : List ℕ → List ℕ → List ℕ → List ℕ → List ℕ → List ℕ → List ℕ → Type 0
-LocalByteEdit d b₁ b₂ m₁ m₂ w₁ w₂ =
-    (g k : ℕ) → g < groupCount → k < 2
-    → ByteAccepted d b₁ → ByteAccepted d b₂ → Edit (wordsOf d) g k (wordsOf b₁) (wordsOf b₂)
-    → needed (wordsOf d) (wordsOf b₁) ≤ length m₁ / 4 → needed (wordsOf d) (wordsOf b₂) ≤ length m₂ / 4
-    → LocalChange (wordsOf w₁) (wordsOf w₂) g k
-
 -- the records in another order: from equal memories the same memory and the same answer; r₁ and r₂ are the answers
 pub record Same (w₁ w₂ : List ℕ) (r₁ r₂ : Answer) : Type 0 where
   pub memories : w₁ ≡ w₂
@@ -36,18 +27,11 @@ pub record Same (w₁ w₂ : List ℕ) (r₁ r₂ : Answer) : Type 0 where
 abbrev pub SameOrder : List ℕ → List ℕ → List ℕ → List ℕ → List ℕ → List ℕ → List ℕ → Answer → Answer → Type 0
 SameOrder d b₁ b₂ m₁ m₂ w₁ w₂ r₁ r₂ = Accepted d b₁ → Reordered b₁ b₂ → m₁ ≡ m₂ → Same w₁ w₂ r₁ r₂
 
--- the same of bytes
-abbrev pub SameByteOrder : List ℕ → List ℕ → List ℕ → List ℕ → List ℕ → List ℕ → List ℕ → Answer → Answer → Type 0
-SameByteOrder d b₁ b₂ m₁ m₂ w₁ w₂ r₁ r₂ = ByteAccepted d b₁ → ByteReordered b₁ b₂ → m₁ ≡ m₂ → Same w₁ w₂ r₁ r₂
-
 -- ---- they hold of what the calls leave
 
 module _ (d b₁ b₂ m₁ m₂ w₁ w₂ : List ℕ) where
   pub local-edit : w₁ ≡ memoryAfter d b₁ m₁ → w₂ ≡ memoryAfter d b₂ m₂ → LocalEdit d b₁ b₂ m₁ m₂ w₁ w₂
   local-edit p q g k hg hk a₁ a₂ e h₁ h₂ = rw (p, q) (demand3 .edits .local d b₁ b₂ m₁ m₂ g k hg hk a₁ a₂ e h₁ h₂)
-
-  pub local-byte-edit : w₁ ≡ bytesAfter d b₁ m₁ → w₂ ≡ bytesAfter d b₂ m₂ → LocalByteEdit d b₁ b₂ m₁ m₂ w₁ w₂
-  local-byte-edit p q g k hg hk a₁ a₂ e h₁ h₂ = rw (p, q) (demand3 .byteEdits .local d b₁ b₂ m₁ m₂ g k hg hk a₁ a₂ e h₁ h₂)
 
   module _ (r₁ r₂ : Answer) where
     pub same-order : w₁ ≡ memoryAfter d b₁ m₁ → w₂ ≡ memoryAfter d b₂ m₂ → r₁ ≡ answer d b₁ (length m₁) → r₂ ≡ answer d b₂ (length m₂)
@@ -56,12 +40,4 @@ module _ (d b₁ b₂ m₁ m₂ w₁ w₂ : List ℕ) where
         record {
           memories = rw (p, q, e) (demand3 .orders .memories d b₁ b₂ m₂ a o);
           answers = rw (u, v, e) (demand3 .orders .answers d b₁ b₂ (length m₂) a o);
-        }
-
-    pub same-byte-order : w₁ ≡ bytesAfter d b₁ m₁ → w₂ ≡ bytesAfter d b₂ m₂ → r₁ ≡ byteAnswer d b₁ (length m₁) → r₂ ≡ byteAnswer d b₂ (length m₂)
-        → SameByteOrder d b₁ b₂ m₁ m₂ w₁ w₂ r₁ r₂
-    same-byte-order p q u v a o e =
-        record {
-          memories = rw (p, q, e) (demand3 .byteOrders .memories d b₁ b₂ m₂ a o);
-          answers = rw (u, v, e) (demand3 .byteOrders .answers d b₁ b₂ (length m₂) a o);
         }

@@ -1,12 +1,11 @@
-// Demand 3 of the code: two reports with one day file, of two batches that are edits or reorderings, into `memory` and `other`; and they are demand 2's.
+// Demand 3 of the call over words: two reports with one day file, of two batches that are edits or reorderings, into `memory` and `other`; and they are demand 2's.
 ghost use mathlib.Core.Path.{_≡_};
 ghost use lib.ListN.{length};
-ghost use Rattle.model.specs.Bytes.{byteAnswer, bytesAfter};
 ghost use Rattle.model.specs.Calls.{answer, memoryAfter};
-ghost use Rattle.locality.specs.Edits.{LocalEdit, LocalByteEdit, SameOrder, SameByteOrder};
+ghost use Rattle.locality.specs.Edits.{LocalEdit, SameOrder};
 use model::Answer;
 
-// Two reports over words: an edit in one group of one book changes its line alone.
+// An edit in one group of one book changes its line alone.
 pub fn report_edits(
     day: &[u32],
     batch: &[u32],
@@ -21,22 +20,13 @@ pub fn report_edits(
     report::report(day, edited, other);
 }
 
-// Two reports over bytes: the same.
-pub fn byte_edits(day: &[u8], batch: &[u8], edited: &[u8], memory: &mut [u8], other: &mut [u8])
-    ensures { λ _. ⌜ LocalByteEdit (now (day .entry)) (now (batch .entry)) (now (edited .entry)) (now (memory .entry)) (now (other .entry)) (now (memory .exit)) (now (other .exit)) ⌝ }
-    ensures { λ _. ⌜ (now (memory .exit) ≡ bytesAfter (now (day .entry)) (now (batch .entry)) (now (memory .entry))) × (now (other .exit) ≡ bytesAfter (now (day .entry)) (now (edited .entry)) (now (other .entry))) ⌝ }
-{
-    byte_report::byte_report(day, batch, memory);
-    byte_report::byte_report(day, edited, other);
-}
-
 // The answers of two calls.
 pub struct Answers {
     pub batch: Answer,
     pub reordered: Answer,
 }
 
-// Two reports over words: the order of the records changes nothing.
+// The order of the records changes nothing.
 pub fn report_orders(
     day: &[u32],
     batch: &[u32],
@@ -50,26 +40,6 @@ pub fn report_orders(
 {
     let answer = report::report(day, batch, memory);
     let reordered_answer = report::report(day, reordered, other);
-    Answers {
-        batch: answer,
-        reordered: reordered_answer,
-    }
-}
-
-// Two reports over bytes: the same.
-pub fn byte_orders(
-    day: &[u8],
-    batch: &[u8],
-    reordered: &[u8],
-    memory: &mut [u8],
-    other: &mut [u8],
-) -> Answers
-    ensures { λ r. ⌜ SameByteOrder (now (day .entry)) (now (batch .entry)) (now (reordered .entry)) (now (memory .entry)) (now (other .entry)) (now (memory .exit)) (now (other .exit)) (r .batch) (r .reordered) ⌝ }
-    ensures { λ _. ⌜ (now (memory .exit) ≡ bytesAfter (now (day .entry)) (now (batch .entry)) (now (memory .entry))) × (now (other .exit) ≡ bytesAfter (now (day .entry)) (now (reordered .entry)) (now (other .entry))) ⌝ }
-    ensures { λ r. ⌜ (r .batch ≡ byteAnswer (now (day .entry)) (now (batch .entry)) (length (now (memory .entry)))) × (r .reordered ≡ byteAnswer (now (day .entry)) (now (reordered .entry)) (length (now (other .entry)))) ⌝ }
-{
-    let answer = byte_report::byte_report(day, batch, memory);
-    let reordered_answer = byte_report::byte_report(day, reordered, other);
     Answers {
         batch: answer,
         reordered: reordered_answer,

@@ -8,7 +8,7 @@ use Rattle.model.specs.Words.{word, amountWords}
 use Rattle.model.specs.Answers.{statusOf, valueOf}
 use Rattle.model.specs.Netting.{net, dvp}
 use Rattle.model.specs.Steps.{lineAmounts, classPoint, groupPoint}
-use Rattle.model.specs.Calls.{answer}
+use Rattle.model.specs.Calls.{verdict, answerOf, answer}
 use Rattle.model.specs.Report.{longestReport}
 use Rattle.model.specs.Limits.{wholeOffset, pointCount}
 
@@ -82,9 +82,10 @@ module _ (d b : List ℕ) where
   abbrev pub groupPoints : ℕ → List ℤ
   groupPoints g = tenOf (groupPoint d (net b) 0 g)
 
-  -- the call's two numbers, with memory for the longest report; the first is 0 where the account is accepted
+  -- the call's two numbers, with memory for the longest report
   abbrev pub answerNumbers : List ℤ
   answerNumbers = numbersOf (answer d b longestReport)
 
+  -- the first of them alone, by the rows that need no memory: 0 where the account is accepted
   abbrev pub status : ℤ
-  status = pos (statusOf (answer d b longestReport))
+  status = pos (statusOf (answerOf (verdict d b) (Answer.Report 0)))

@@ -1,7 +1,7 @@
 -- The checks of a batch: rows 20 to 26, and the first that refuses. b is the list of its words, d the day file's, r a record.
 use mathlib.Core.Bool.{Bool, not, _&&_, _||_}
 use mathlib.Core.List.{List, [], _∷_}
-use Prim.Native.Nat.{ℕ, _+_}
+use Prim.Native.Nat.{ℕ}
 use lib.Dec.{leb, ltb, eqb}
 use lib.IntN.{natAbs}
 use lib.ListN.{length}

@@ -1,16 +1,14 @@
--- Accounts beside the papers' figures, for what no figure of theirs shows: the rate of each type, an exercised put, a line held by an exercised position alone, fields at their limits.
+-- Accounts beside the papers' figures, for what no figure of theirs shows: the rate of each type, an exercised put, a line held by an exercised position alone, fields at their limits, a group in both books beside a residual credit.
 use mathlib.Core.Path.{_≡_, refl}
 use mathlib.Core.List.{List, [], _∷_, _++_}
 use Prim.Native.Nat.{ℕ, _+_, _^_}
 use lib.IntN.{ℤ, pos}
-use lib.ListN.{replicate}
-use Rattle.model.specs.declared.Answer.{Answer}
-use Rattle.model.specs.Answers.{statusOf}
+use lib.ListN.{replicate, getD}
 use Rattle.model.specs.Netting.{net, dvp}
-use Rattle.model.specs.Steps.{minimum, premium, classPoint}
-use Rattle.model.specs.Report.{lineCount}
-use Rattle.model.specs.Calls.{verdict, answerOf}
+use Rattle.model.specs.Steps.{minimum, premium, classPoint, total}
+use Rattle.model.specs.Report.{lineCount, lineWords}
 use Rattle.model.specs.Accounts.{Figure, allComputed, allPublished, minus, ten, noRates, dayFile, classRecord, seriesRecord, batchFile, positionRecord, lineOf, status}
+use Rattle.model.specs.Figures.{credit}
 use Rattle.model.specs.Computing.{everything}
 
 -- one series of each type; minimum rates 2, 3, 5, 7 and 11 units for options, futures, equities, warrants and rights
@@ -51,6 +49,15 @@ edges =
 abbrev edgesHeld : List ℕ
 edgesHeld = batchFile 1 (positionRecord 0 0 0 (minus 5000000000000000))
 
+-- M6's account, and its share's DVP of −150 as a fail too
+abbrev bothHeld : List ℕ
+bothHeld =
+    batchFile 3 (positionRecord 0 1 0 (pos 0) ++ (positionRecord 1 0 0 (minus 1500000) ++ positionRecord (2 ^ 9 + 1) 0 0 (minus 1500000)))
+
+-- the first word of the line of group 7 in book k
+abbrev bothKey : ℕ → ℕ
+bothKey k = getD (lineWords credit (net bothHeld) (dvp bothHeld) k 7) 0 0
+
 unfoldable pub cases : List Figure
 cases =
     -- the minimum of one short future, call, put, equity, warrant and rights issue, each alone
@@ -73,10 +80,21 @@ cases =
       computed = pos (lineCount put (net putsExercised) (dvp putsExercised)) ∷ lineOf put putsExercised 6;
       published = pos 1 ∷ pos 0 ∷ pos 0 ∷ minus 2000000 ∷ pos 2000000 ∷ pos 0 ∷ pos 0 ∷ [];
     }
-    -- fields at their limits pass the rows above 40: the DVP is the MTM and the margin of group 28
+    -- fields at their limits are accepted: the DVP is the MTM and the margin of group 28
     ∷ record {
-      computed = pos (statusOf (answerOf (verdict edges edgesHeld) (Answer.Report 0))) ∷ lineOf edges edgesHeld 28;
+      computed = status edges edgesHeld ∷ lineOf edges edgesHeld 28;
       published = pos 0 ∷ pos 0 ∷ pos 5000000000000000 ∷ pos 0 ∷ pos 0 ∷ pos 5000000000000000 ∷ pos 0 ∷ [];
+    }
+    -- the residual credit of 431.60 lowers no total: 0 and, for fail, 150; the keys of group 7 are 7 and, for fail, 7 + 32
+    ∷ record {
+      computed =
+          status credit bothHeld
+          ∷ total credit (net bothHeld) (net bothHeld) (dvp bothHeld) 0
+          ∷ total credit (net bothHeld) (net bothHeld) (dvp bothHeld) 1
+          ∷ pos (bothKey 0)
+          ∷ pos (bothKey 1)
+          ∷ [];
+      published = pos 0 ∷ pos 0 ∷ pos 1500000 ∷ pos 1073741831 ∷ pos 1073741863 ∷ [];
     }
     ∷ []
 

@@ -90,7 +90,7 @@ shortCallsHeld = batchFile 1 (positionRecord 0 0 10 (pos 0))
 
 -- ---- M6: a share bought and sold with DVP −150, and a long call at 891.40, D5 581.60
 
-abbrev credit : List ℕ
+abbrev pub credit : List ℕ
 credit =
     dayFile 1 2
     (classRecord 7 0 noRates 0 (ten 0)

@@ -8,14 +8,13 @@ use lib.Dec.{eqb}
 use lib.IntN.{ℤ, pos, natAbs, _+ℤ_, _-ℤ_}
 use lib.ListN.{length, getD, set}
 use mir.Syntax.{w64}
-use mir.Val.{SFits, toZ, ofZ}
-use Rattle.numbers.specs.Abs.{cond-ind, natAbs-+, natAbs-pos-sub, fits-by, back}
+use mir.Val.{SFits}
+use Rattle.numbers.specs.Abs.{cond-ind, natAbs-+, natAbs-pos-sub, fits-by}
 use Rattle.numbers.specs.Slots.{slot, slots, slots-more}
 use Rattle.numbers.specs.Sums.{sumTo-abs}
-use Rattle.numbers.specs.Table.{tabulate, length-tabulate, getD-tabulate}
-use Rattle.model.specs.Limits.{contractsLimit, quantityLimit, dvpAmountLimit, mostRecords}
-use Rattle.model.specs.Batch.{recordCount, key, long, short}
-use Rattle.model.specs.Netting.{net, positionCount}
+use Rattle.numbers.specs.Table.{length-tabulate, getD-tabulate}
+use Rattle.model.specs.Limits.{quantityLimit, dvpAmountLimit, mostRecords}
+use Rattle.model.specs.Batch.{recordCount, long, short}
 use Rattle.netting.specs.Limits.{Limited}
 
 -- what record r adds to a net
@@ -48,21 +47,3 @@ module _ (m : ℕ) (key : ℕ → ℕ) (f : ℕ → ℤ) (l : List ℤ) (r k : �
 pub change-limit : (b : List ℕ) → Limited b → (r : ℕ) → r < recordCount b → natAbs (change b r) ≤ dvpAmountLimit
 change-limit b s r h =
     omega (arith, natAbs-pos-sub (short b r) (long b r) quantityLimit (s .shorts r h) (s .longs r h))
-
-pub net-limit : (b : List ℕ) → Limited b → (p : ℕ) → natAbs (net b p) ≤ contractsLimit
-unfolding net
-net-limit b s p =
-    omega (
-      arith,
-      s .few,
-      sumTo-abs (recordCount b) (λ r. cond (eqb (key b r) p) (change b r) (pos 0)) quantityLimit
-          (λ r h.
-          cond-ind (eqb (key b r) p) (change b r) (pos 0) (λ y. natAbs y ≤ quantityLimit)
-          (λ t. natAbs-pos-sub (short b r) (long b r) quantityLimit (s .shorts r h) (s .longs r h)) (λ t. omega arith)),
-    )
-
--- the net of record r's position, as read from the table
-pub net-read : (b : List ℕ) (nets : List ℤ) (k r : ℕ) → Limited b → nets ≡ tabulate positionCount (net b) → k ≡ key b r
-    → toZ w64 (ofZ w64 (getD nets k (pos 0))) ≡ net b (key b r)
-net-read b nets k r s e q =
-    back ((λ i. getD (e i) (q i) (pos 0)) ∙ getD-tabulate positionCount (net b) (key b r) (pos 0) (omega arith)) (omega (arith, net-limit b s (key b r)))

@@ -5,10 +5,9 @@ use Prim.Native.Nat.{ℕ, _≤_, _<_}
 use lib.IntN.{natAbs}
 use lib.ListN.{length}
 use Rattle.model.specs.Limits.{quantityLimit, dvpAmountLimit, mostRecords}
-use Rattle.model.specs.DayFile.{classCount, seriesCount, dayWords}
-use Rattle.model.proofs.Accepted.{DayRows, BatchChecks}
-use Rattle.model.proofs.Limits.{batch-length, few-records, long-limit, short-limit, dvp-limit, place-limit, day-length}
-use Rattle.model.specs.Batch.{recordCount, place, long, short, dvpAmount, batchWords}
+use Rattle.model.proofs.Accepted.{BatchChecks}
+use Rattle.model.proofs.Limits.{batch-length, few-records, long-limit, short-limit, dvp-limit}
+use Rattle.model.specs.Batch.{recordCount, long, short, dvpAmount, batchWords}
 
 pub record Limited (b : List ℕ) : Type 0 where
   pub whole : length b ≡ batchWords (recordCount b)
@@ -17,12 +16,7 @@ pub record Limited (b : List ℕ) : Type 0 where
   pub shorts : (r : ℕ) → r < recordCount b → short b r ≤ quantityLimit
   pub dvps : (r : ℕ) → r < recordCount b → natAbs (dvpAmount b r) ≤ dvpAmountLimit
 
--- .. and to be held against the day file: its length, and the places of the series (rows 11 and 23)
-pub record Placed (d b : List ℕ) : Type 0 where
-  pub whole : length d ≡ dayWords (classCount d) (seriesCount d)
-  pub places : (r : ℕ) → r < recordCount b → place b r < seriesCount d
-
--- what the checks of the two files give
+-- what the checks of the batch give
 pub limited : (d b : List ℕ) → BatchChecks d b → Limited b
 limited d b r =
     record {
@@ -32,6 +26,3 @@ limited d b r =
       shorts = short-limit d b r;
       dvps = dvp-limit d b r;
     }
-
-pub placed : (d b : List ℕ) → DayRows d → BatchChecks d b → Placed d b
-placed d b p r = record { whole = day-length d p; places = place-limit d b r }

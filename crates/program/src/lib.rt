@@ -10,7 +10,7 @@ ghost use Rattle.model.specs.Printed.{programText};
 ghost use Rattle.text.specs.Room.{longestText};
 ghost use Rattle.program.specs.Files.{filesAnswer, callText};
 ghost use Rattle.model.specs.Report.{longestReport};
-use byte_report::LONGEST_REPORT;
+use byte_room::LONGEST_REPORT;
 use model::Answer;
 use model::Verdict;
 

@@ -10,7 +10,7 @@ ghost use Rattle.model.specs.Calls.{memoryAfter};
 ghost use Rattle.program.specs.Files.{callText};
 ghost use Rattle.text.specs.Room.{longestText};
 ghost use Rattle.random_accounts.specs.Fronts.{front, behind};
-use byte_report::LONGEST_REPORT;
+use byte_room::LONGEST_REPORT;
 use case_lengths::at_most;
 use case_lengths::lengths_within;
 use libc::STDOUT_FILENO;

@@ -8,7 +8,6 @@ ghost use Rattle.classes.specs.Starts.{startTable};
 use classes::starts::STARTS;
 use model::Answer;
 use model::Verdict;
-use netting::POSITIONS;
 
 // One account of a checked day file with the table of its classes' first series: rows 20 to 40.
 pub fn report_of_day(
@@ -25,13 +24,7 @@ pub fn report_of_day(
     if let Verdict::Failed(check) = batch_check::check_batch(day, batch) {
         return Answer::Refused(check);
     }
-    let mut nets = [0i64; POSITIONS];
-    let mut dvps = [0i64; POSITIONS];
-    netting::net_positions(batch, &mut nets, &mut dvps);
-    if let Verdict::Failed(check) = netting::check_nets(day, batch, &nets) {
-        return Answer::Refused(check);
-    }
-    report_writer::report_accepted(day, starts, &nets, &dvps, memory)
+    checked_account::report_checked(day, starts, batch, memory)
 }
 
 // What follows the day file's rows: their refusal, or the account.

@@ -79,7 +79,7 @@ pub fn report_accepted(
     let ordinary = book_map(day, starts, nets, dvps, 0);
     let fail = book_map(day, starts, nets, dvps, 1);
     let count = line_count(ordinary, fail);
-    let needed = 13 + LINE_WORDS * index(count);
+    let needed = FRAME_WORDS + LINE_WORDS * index(count);
     if memory.len() < needed {
         return Answer::Refused(Check::Report(ReportFault::TooShort, needed));
     }

@@ -6,10 +6,9 @@ use Prim.Native.Nat.{ℕ, _*_, _+_, _≤_, _<_, _^_}
 use native.Mathlib.Nat.{le-refl}
 use native.Mathlib.Omega.{arith}
 use lib.IntN.{ℤ, pos, natAbs, _+ℤ_, _-ℤ_, _*ℤ_}
-use lib.Signed.{ltZ}
 use Rattle.numbers.specs.declared.Found.{Found}
 use Rattle.numbers.specs.declared.Found.the-variants.{At, Nothing}
-use Rattle.numbers.specs.Abs.{cond-ind, natAbs-+, natAbs--, natAbs-*-le}
+use Rattle.numbers.specs.Abs.{natAbs-+, natAbs--, natAbs-*-le}
 use Rattle.numbers.specs.Extremes.{minZ, maxZ, absZ, max-zero-abs, min-abs}
 use Rattle.numbers.specs.Scan.{firstBad, first-more, first-hit, first-at}
 use Rattle.model.specs.Limits.{worthLimit, contractsLimit, priceLimit}

@@ -5,11 +5,9 @@ use Rattle.model.specs.declared.Answer.{Answer}
 use Rattle.model.specs.declared.Answer.the-variants.{Report, Refused}
 use Rattle.model.specs.Reading.{countIn}
 use Rattle.model.specs.Limits.{mostLines}
+use Rattle.text_lines.specs.Lines.{longestLine}
 
 -- the line count (28 bytes), every line and the totals (72 bytes)
-abbrev pub longestLine : ℕ
-longestLine = 155
-
 abbrev pub longestText : ℕ
 longestText = 28 + longestLine * mostLines + 72
 

@@ -1,82 +1,27 @@
--- The lengths of lines, and one more of them, as loops meet them.
-use mathlib.Core.Path.{_≡_, refl}
-use mathlib.Core.Bool.{Bool, true, false, cond}
+-- The lengths of the line count and the totals.
+use mathlib.Core.Path.{_≡_}
 use mathlib.Core.List.{List, [], _∷_, _++_}
-use Prim.Native.Nat.{ℕ, zero, suc, _+_, _*_, _≤_}
-use native.Mathlib.Numerals.{add-one}
+use Prim.Native.Nat.{ℕ, _+_, _≤_}
 use native.Mathlib.Omega.{arith}
-use lib.Dec.{eqb}
-use lib.ListN.{length, getD, length-append}
+use lib.ListN.{length, length-append}
 use Rattle.numbers.specs.Put.{put}
-use Rattle.model.specs.Words.{payload, bits}
-use Rattle.model.specs.Printed.{numberField, amountFields, marginHead, ordinaryHead, failHead, totalHead, lineText, linesText, countText, totalsText}
+use Rattle.model.specs.Printed.{numberField, amountFields, marginHead, totalHead, countText, totalsText}
 use Rattle.model.proofs.Digits.{decimal-length}
 use Rattle.text_fields.specs.Fields.{fields-length}
-use Rattle.model.specs.Report.{wordsALine}
-use Rattle.text.specs.Room.{longestLine}
 
 -- text from place 0 on ends at its length
 pub from-front : (w l : List ℕ) {n : ℕ} {m : List ℕ} → (n ≡ 0 + length w) × (m ≡ put 0 w l) → (n ≡ length w) × (m ≡ put 0 w l)
 from-front w l p = (omega (arith, p .0), p .1)
 
--- the head of a line whose key has this payload
-abbrev pub headOf : ℕ → List ℕ
-headOf p = cond (eqb (bits p 5 1) 1) failHead ordinaryHead
-
-pub head-length : (p : ℕ) → length (headOf p) ≡ 1
-head-length p = by (eqb (bits p 5 1) 1)
-  where
-    by : (b : Bool) → length (cond b failHead ordinaryHead) ≡ 1
-    by true = refl
-    by false = refl
-
-module _ (w : List ℕ) where
-  -- a line's parts
-  pub lineParts : (i : ℕ) → lineText w i ≡ headOf (payload (getD w i 0)) ++ numberField (bits (payload (getD w i 0)) 0 5) ++ amountFields w (i + 1) 6 ++ 10 ∷ []
-  unfolding lineText
-  lineParts i = refl
-
-  pub line-length : (i : ℕ) → length (lineText w i) ≤ longestLine
-  unfolding lineText
-  line-length i =
-      let p : ℕ = payload (getD w i 0) in
-      let h : List ℕ = headOf p in
-      let n : List ℕ = numberField (bits p 0 5) in
-      let f : List ℕ = amountFields w (i + 1) 6 in
-      omega (
-        arith,
-        head-length p,
-        decimal-length (bits p 0 5),
-        fields-length w (i + 1) 6,
-        length-append (h ++ n ++ f) (10 ∷ []),
-        length-append (h ++ n) f,
-        length-append h n,
-      )
-
-  pub lines-none : linesText w 0 ≡ []
-  unfolding linesText
-  lines-none = refl
-
-  pub lines-more : (n : ℕ) → linesText w (n + 1) ≡ linesText w n ++ lineText w (3 + wordsALine * n)
-  unfolding linesText
-  lines-more n = rw add-one
-
-  pub lines-length : (n : ℕ) → length (linesText w n) ≤ longestLine * n
-  unfolding linesText
-  lines-length zero = omega arith
-  lines-length (suc n) =
-      omega (arith, lines-length n, line-length (3 + wordsALine * n), length-append (linesText w n) (lineText w (3 + wordsALine * n)))
-
-  -- the longest text: 58 lines
-  pub totals-length : (i : ℕ) → length (totalsText w i) ≤ 72
-  unfolding totalsText
-  totals-length i =
-      omega (
-        arith,
-        fields-length w i 3,
-        length-append (totalHead ++ amountFields w i 3) (10 ∷ []),
-        length-append totalHead (amountFields w i 3),
-      )
+pub totals-length : (w : List ℕ) (i : ℕ) → length (totalsText w i) ≤ 72
+unfolding totalsText
+totals-length w i =
+    omega (
+      arith,
+      fields-length w i 3,
+      length-append (totalHead ++ amountFields w i 3) (10 ∷ []),
+      length-append totalHead (amountFields w i 3),
+    )
 
 pub count-length : (n : ℕ) → length (countText n) ≤ 28
 unfolding countText

@@ -1,12 +1,11 @@
-// Lines and the whole text. Each function writes from place `at` on and returns the place behind.
+// The whole text: line count, lines and totals, or a refusal. A function with a place `at` writes from there on and returns the place behind.
 ghost use mathlib.Core.Path.{_≡_};
-ghost use Prim.Native.Nat.{_+_, _*_, _≤_, _<_};
+ghost use Prim.Native.Nat.{_+_, _≤_};
 ghost use lib.ListN.{length};
 ghost use Rattle.numbers.specs.Put.{put};
 ghost use Rattle.model.specs.Reading.{countIn};
-ghost use Rattle.model.specs.Printed.{lineText, linesText, countText, totalsText, reportText, refusalText, printed};
-ghost use Rattle.text.specs.Room.{Room, longestText, longestLine};
-ghost use Rattle.text.specs.Texts.{headOf};
+ghost use Rattle.model.specs.Printed.{countText, totalsText, reportText, refusalText, printed};
+ghost use Rattle.text.specs.Room.{Room, longestText};
 ghost use Rattle.model.specs.Limits.{mostLines};
 use line_words::LINE_WORDS;
 use line_words::MOST_LINES;
@@ -14,6 +13,8 @@ use model::Answer;
 use text_fields::write_amounts;
 use text_fields::write_byte;
 use text_fields::write_number;
+use text_lines::write_head;
+use text_lines::write_lines;
 use words::index;
 use words::payload;
 use words::wide;
@@ -21,56 +22,6 @@ use words::word_at;
 
 // The bytes of the longest text: the line count, the lines and the totals.
 pub const LONGEST_TEXT: usize = 28 + 155 * MOST_LINES + 72;
-
-// A fixed byte string: the head of a line.
-fn write_head(out: &mut [u8], at: usize, head: &[u8]) -> usize
-    requires { ⌜ at + length (now head) ≤ length (now out) ⌝ }
-    ensures { λ r. ⌜ (r ≡ at + length (now (head .entry))) × (now (out .exit) ≡ put at (now (head .entry)) (now (out .entry))) ⌝ }
-{
-    let mut i: usize = 0;
-    while i < head.len() {
-        out[at + i] = head[i];
-        i = i + 1;
-    }
-    at + head.len()
-}
-
-// O, or F where bit 5 of a line's key is set.
-fn write_book(out: &mut [u8], at: usize, key: u32) -> usize
-    requires { ⌜ at + 1 ≤ length (now out) ⌝ }
-    ensures { λ r. ⌜ (r ≡ at + length (headOf key)) × (now (out .exit) ≡ put at (headOf key) (now (out .entry))) ⌝ }
-{
-    if key / 32 % 2 == 1 {
-        return write_head(out, at, b"F");
-    }
-    write_head(out, at, b"O")
-}
-
-// The line that begins at word i of the report.
-fn write_line(out: &mut [u8], at: usize, report: &[u32], i: usize) -> usize
-    requires { ⌜ (at + longestLine ≤ length (now out)) × (i ≤ 10000) ⌝ }
-    ensures { λ r. ⌜ (r ≡ at + length (lineText (now (report .entry)) i)) × (now (out .exit) ≡ put at (lineText (now (report .entry)) i) (now (out .entry))) ⌝ }
-{
-    let key = payload(word_at(report, i));
-    let a = write_book(out, at, key);
-    let b = write_number(out, a, wide(key % 32));
-    let c = write_amounts(out, b, report, i + 1, 6);
-    write_byte(out, c, b'\n')
-}
-
-// The first n lines of the report.
-fn write_lines(out: &mut [u8], at: usize, report: &[u32], n: usize) -> usize
-    requires { ⌜ (at + longestLine * n ≤ length (now out)) × (n ≤ mostLines) ⌝ }
-    ensures { λ r. ⌜ (r ≡ at + length (linesText (now (report .entry)) n)) × (now (out .exit) ≡ put at (linesText (now (report .entry)) n) (now (out .entry))) ⌝ }
-{
-    let mut end = at;
-    let mut k: usize = 0;
-    while k < n {
-        end = write_line(out, end, report, 3 + LINE_WORDS * k);
-        k = k + 1;
-    }
-    end
-}
 
 // The line count.
 fn write_count(out: &mut [u8], at: usize, n: u64) -> usize

@@ -7,7 +7,8 @@ use denote.Ref.{now}
 use Rattle.model.specs.Bytes.{wordsOf, writtenBytes}
 use Rattle.model.specs.Calls.{answer, report}
 use Rattle.model.proofs.ByteWords.{words-length}
-use Rattle.byte_report.specs.Room.{room-most, put-take}
+use Rattle.byte_room.specs.Room.{room-most}
+use Rattle.byte_report.specs.Room.{put-take}
 use borrow.Author.Needs.{needs}
 use Rattle.byte_report.proofs.report_decoded.Statement.{statement}
 use Rattle.byte_report.proofs.report_decoded.Tie as tie

@@ -10,7 +10,8 @@ use Rattle.model.specs.declared.Answer.the-variants.{Report}
 use Rattle.model.specs.Bytes.{bytesOf, writtenBytes}
 use Rattle.model.specs.Calls.{answer, report}
 use Rattle.byte_words.specs.Words.{bytes-length}
-use Rattle.byte_report.specs.Room.{room-most, room-fits, answer-room, answer-fits, report-front}
+use Rattle.byte_room.specs.Room.{room-most, room-fits}
+use Rattle.byte_report.specs.Room.{answer-room, answer-fits, report-front}
 use borrow.Author.Needs.{needs}
 use Rattle.byte_report.proofs.report_words.Statement.{statement}
 use Rattle.byte_report.proofs.report_words.Tie as tie

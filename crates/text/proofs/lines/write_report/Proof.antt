@@ -9,7 +9,8 @@ use Rattle.numbers.specs.Put.{put-then}
 use Rattle.model.specs.Reading.{countIn}
 use Rattle.model.specs.Words.{payload}
 use Rattle.model.specs.Printed.{linesText, countText, totalsText, reportText}
-use Rattle.text.specs.Texts.{from-front, lines-length, count-length, totals-length}
+use Rattle.text_lines.specs.Lines.{lines-length}
+use Rattle.text.specs.Texts.{from-front, count-length, totals-length}
 use Rattle.text.proofs.lines.write_report.Statement.{statement}
 use Rattle.text.proofs.lines.write_report.Tie as tie
 use Rattle.model.specs.Limits.{mostLines}

@@ -1,0 +1,17 @@
+pub mod Counted
+pub mod Readable
+pub mod Untouched
+pub mod Written
+pub mod Totals
+pub mod TwoGroups
+pub mod RuledOut
+pub mod Corollaries
+pub mod Often
+pub mod Batches
+pub mod Numbers
+pub mod TextFields
+pub mod TextLines
+pub mod TextReading
+pub mod TextNumbers
+pub mod TextAnswers
+pub mod TextExamples
