@@ -1,2 +1,3 @@
 pub mod Room
 pub mod Bytes
+pub mod Small

@@ -17,6 +17,8 @@ use Rattle.model.specs.Netting.{net, dvp}
 use Rattle.model.specs.Calls.{verdict, answer, answerOf, roomAnswer, needed, report, memoryAfter}
 use Rattle.model.proofs.Read.{count-small}
 use Rattle.model.proofs.Outcome.{answer-report}
+use Rattle.model.specs.Bytes.{wordsOf}
+use Rattle.model.proofs.ByteWords.{words-length}
 use Rattle.byte_room.specs.Room.{roomOf}
 
 pub needed-most : (d b : List ℕ) → needed d b ≤ longestReport
@@ -48,6 +50,8 @@ pub report-front : (d b m : List ℕ) (n : ℕ) → answer d b (length m) ≡ Re
 unfolding memoryAfter
 report-front d b m n e = rw e (take-at (report d b) (drop n m) n (sym (answer-fits d b (length m) n e .1)))
 
--- the front of what was written
-pub put-take : (w l : List ℕ) (n : ℕ) → length w ≡ n → take n (put 0 w l) ≡ w
-put-take w l n e = ap (take n) (put-front w l) ∙ take-at w (drop (length w) l) n e
+-- the words of a file, read from the front of the memory x that they were written into
+pub front-words : (bytes l x : List ℕ) → x ≡ put 0 (wordsOf bytes) l → take (length bytes / 4) x ≡ wordsOf bytes
+front-words bytes l x e =
+    ap (take (length bytes / 4)) (e ∙ put-front (wordsOf bytes) l)
+    ∙ take-at (wordsOf bytes) (drop (length (wordsOf bytes)) l) (length bytes / 4) (words-length bytes)
