@@ -1,11 +1,12 @@
 /*
- * The MARS margin report of one account.
+ * The MARS margin report of one account, and of all accounts of a broker.
  *
  * mars_report reads a day file and a position batch and writes a report: netting, futures spread, mark-to-market, premium,
  * additional and minimum margin, total margin, fails held separately, one line for each product group of each book.
  * Every amount is exact, in ten-thousandths of a euro; debit is positive, credit negative.
  *
- * All three memories are runs of 32-bit words, low byte first.
+ * All three memories are runs of 32-bit words, low byte first. mars_reports does the same for many batches in one call, over
+ * arrays of uint32_t.
  */
 #ifndef MARS_H
 #define MARS_H
@@ -46,6 +47,35 @@ uint64_t mars_report(const uint8_t *day, size_t day_len, const uint8_t *batch, s
                      size_t report_len);
 
 /*
+ * Computes the reports of up to MARS_MOST_ACCOUNTS accounts, one behind the other: what single calls do, made in turn, each with
+ * the report memory still left. The day file is checked once.
+ *
+ * day          The day file's words.
+ * batches      The accounts' batches, back to back.
+ * lengths      The words of each batch, one number an account.
+ * results      Two numbers an account, in the order of the batches: 0 and the length of its report in words, or the number and
+ *              place of its refusal (10 to 40). Numbers past two an account remain.
+ * report       The reports of the accepted accounts, end to end: each starts where the one before ended. A refused account
+ *              writes nothing, and the next goes on. Words past the last report remain. MARS_REPORT_BYTES / 4 words an account
+ *              are always enough.
+ * *_len        Lengths in words (entries). Any length is allowed, zero too.
+ * Pointers     Not NULL, not even with length zero; aligned as a uint32_t. results and report overlap nothing; the three that are
+ *              read may overlap each other, and nothing may write to them while the call runs.
+ *
+ * Result       mars_number is 0, and mars_value the words written in all. A refused account or day file is no refusal of the
+ *              call: it is told in results.
+ *              Otherwise mars_number is MARS_ACCOUNT_LENGTHS or MARS_SHORT_RESULTS, in this order and before every other row, and
+ *              mars_value 0. Neither results nor report is changed then.
+ *
+ * Threads      The call keeps no state. It may run in any threads at once as long as their result lists and report memories are
+ *              distinct.
+ */
+#define MARS_MOST_ACCOUNTS 64
+uint64_t mars_reports(const uint32_t *day, size_t day_len, const uint32_t *batches, size_t batches_len,
+                      const uint32_t *lengths, size_t lengths_len, uint32_t *results, size_t results_len, uint32_t *report,
+                      size_t report_len);
+
+/*
  * Reads back a text that the report program printed.
  *
  * text         Read during the call only, never written or kept. Any bytes are allowed.
@@ -65,7 +95,8 @@ uint64_t mars_report(const uint8_t *day, size_t day_len, const uint8_t *batch, s
 #define MARS_UNREADABLE 4294967295u
 uint64_t mars_read_text(const uint8_t *text, size_t text_len, int64_t *ordinary, int64_t *fail, int64_t *account);
 
-/* Refusals in the order in which they are tried, each over all records before the next. */
+/* Refusals in the order in which they are tried, each over all records before the next; the last two by mars_reports alone,
+ * before all others. */
 enum mars_refusal {
     MARS_REPORT = 0,            /* no refusal: a report was written */
     MARS_DAY_BYTES_BAD = 1,     /* day file's length is no multiple of 4, or exceeds the longest form */
@@ -86,7 +117,9 @@ enum mars_refusal {
     MARS_POSITION_FAIL = 25,    /* a fail, and not a security */
     MARS_POSITION_DVP = 26,     /* DVP amount not 0, and not a security */
     MARS_NET_LIMIT = 30,        /* a position's net x multiplier above 10,000,000; place: its first record */
-    MARS_SHORT_REPORT = 40      /* report memory too short; the value is the words needed */
+    MARS_SHORT_REPORT = 40,     /* report memory too short; the value is the words needed */
+    MARS_ACCOUNT_LENGTHS = 60,  /* more than 64 accounts, or lengths that do not add up to the words given */
+    MARS_SHORT_RESULTS = 61     /* result list shorter than two numbers an account */
 };
 
 /* The amounts of a line, and the totals. */
@@ -105,7 +138,7 @@ enum mars_total { MARS_ORDINARY = 0, MARS_FAIL = 1, MARS_ACCOUNT = 2 };
 static inline uint32_t mars_number(uint64_t result) { return (uint32_t)(result >> 32); }
 static inline uint32_t mars_value(uint64_t result) { return (uint32_t)(result & 0xffffffffu); }
 
-/* A word of a report, by its place from 0. */
+/* A word of a report, by its place from 0. A report among uint32_t words is read through a pointer to its first byte. */
 static inline uint32_t mars_word(const uint8_t *report, size_t at) {
     const uint8_t *b = report + 4 * at;
     return (uint32_t)b[0] | (uint32_t)b[1] << 8 | (uint32_t)b[2] << 16 | (uint32_t)b[3] << 24;

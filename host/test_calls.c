@@ -1,5 +1,5 @@
 /* Calls at the edges: unaligned and empty inputs, short memories, memories at the border of inaccessible pages, threads;
- * printed texts read back. */
+ * many accounts in one call; printed texts read back. */
 #define _DEFAULT_SOURCE
 #include "mars.h"
 
@@ -202,6 +202,92 @@ static void accessors(void) {
     check(mars_total(expected, MARS_ACCOUNT) == 16700000, "total", 2);
 }
 
+/* ---- many accounts */
+
+#define MOST_WORDS (65 * (MARS_REPORT_BYTES / 4))
+
+/* The words of a file of bytes. */
+static uint32_t *words_of(struct file f) {
+    uint32_t *words = malloc(f.length + 4);
+    if (words == NULL) exit(2);
+    for (size_t i = 0; i < f.length / 4; i++) words[i] = mars_word(f.bytes, i);
+    return words;
+}
+
+struct account {
+    const uint32_t *batch;
+    size_t length;
+};
+
+/* One call on blocks of exactly these lengths, held to byte calls made in turn, each with the memory still left. */
+static uint64_t in_turn(const struct account *accounts, size_t count, size_t entries, size_t room, const char *what) {
+    static uint8_t expected_memory[4 * MOST_WORDS];
+    uint32_t *d = words_of(day);
+    size_t total = 0, at = 0, from = 0;
+    for (size_t i = 0; i < count; i++) total += accounts[i].length;
+    uint32_t *batches = malloc(4 * total + 4), *lengths = malloc(4 * count + 4), *results = malloc(4 * entries + 4);
+    uint32_t *report = malloc(4 * room + 4);
+    if (batches == NULL || lengths == NULL || results == NULL || report == NULL) exit(2);
+    for (size_t i = 0; i < count; i++) {
+        memcpy(batches + from, accounts[i].batch, 4 * accounts[i].length);
+        from += accounts[i].length;
+        lengths[i] = (uint32_t)accounts[i].length;
+    }
+    for (size_t i = 0; i < entries; i++) results[i] = 9;
+    for (size_t i = 0; i < room; i++) report[i] = (uint32_t)i * 7 + 13;
+    memcpy(expected_memory, report, 4 * room);
+    uint64_t result =
+        mars_reports(d, day.length / 4, batches, total, lengths, count, results, entries, report, room);
+    uint32_t number = count > MARS_MOST_ACCOUNTS ? MARS_ACCOUNT_LENGTHS : entries < 2 * count ? MARS_SHORT_RESULTS : MARS_REPORT;
+    for (size_t i = 0; number == MARS_REPORT && i < count; i++) {
+        uint64_t single = mars_report(day.bytes, day.length, (const uint8_t *)accounts[i].batch, 4 * accounts[i].length,
+                                      expected_memory + 4 * at, 4 * (room - at));
+        check(results[2 * i] == mars_number(single) && results[2 * i + 1] == mars_value(single), what, i);
+        if (mars_number(single) == MARS_REPORT) at += mars_value(single);
+    }
+    check(result == refusal(number, (uint32_t)at), what, count);
+    check(memcmp(report, expected_memory, 4 * room) == 0, what, room);
+    for (size_t i = number == MARS_REPORT ? 2 * count : 0; i < entries; i++) check(results[i] == 9, what, i);
+    free(d);
+    free(batches);
+    free(lengths);
+    free(results);
+    free(report);
+    return result;
+}
+
+static void accounts(void) {
+    static const uint32_t empty[] = {1u << 29}, wrong[] = {2u << 29};
+    struct account own = {words_of(batch), batch.length / 4}, none = {empty, 1}, bad = {wrong, 1}, nothing = {empty, 0};
+    size_t long_report = mars_value(expected_result);
+    struct account many[65];
+    for (size_t i = 0; i < 65; i++) many[i] = i % 3 == 1 ? bad : i % 3 == 2 ? none : own;
+    static const size_t counts[] = {0, 1, 60, 64, 65};
+    for (size_t i = 0; i < sizeof counts / sizeof counts[0]; i++) {
+        in_turn(many, counts[i], 2 * counts[i], MOST_WORDS, "accounts: enough memory");
+        in_turn(many, counts[i], 2 * counts[i] + 5, MOST_WORDS, "accounts: results past the accounts");
+        in_turn(many, counts[i], 2 * counts[i], 10 * long_report, "accounts: memory runs out");
+        in_turn(many, counts[i], 2 * counts[i], 0, "accounts: no memory");
+        if (counts[i] > 0) in_turn(many, counts[i], 2 * counts[i] - 1, MOST_WORDS, "accounts: short results");
+    }
+    struct account three[3] = {own, none, own};
+    for (size_t room = 0; room <= 2 * long_report + 15; room++) in_turn(three, 3, 6, room, "accounts: every memory");
+    struct account refused[3] = {none, bad, nothing};
+    check(in_turn(refused, 3, 6, 30, "accounts: refused ones") == 13, "accounts: refused ones", 0);
+    /* lengths that add up only where the sum wraps */
+    uint32_t wraps[2] = {UINT32_MAX, 2}, results[4] = {9, 9, 9, 9}, report[1] = {9};
+    check(mars_reports(empty, 1, empty, 1, wraps, 2, results, 4, report, 1) == refusal(MARS_ACCOUNT_LENGTHS, 0), "accounts: sum", 0);
+    wraps[0] = wraps[1] = 1u << 31;
+    check(mars_reports(empty, 1, empty, 0, wraps, 2, results, 4, report, 1) == refusal(MARS_ACCOUNT_LENGTHS, 0), "accounts: sum", 1);
+    check(results[0] == 9 && results[3] == 9 && report[0] == 9, "accounts: sum", 2);
+    /* a refused day file is told for each account; no accounts are accepted with any day file */
+    uint32_t one[2] = {1, 0};
+    check(mars_reports(empty, 0, empty, 1, one, 2, results, 4, report, 1) == 0, "accounts: no day file", 0);
+    check(results[0] == MARS_DAY_HEADER && results[1] == 0 && results[2] == MARS_DAY_HEADER && results[3] == 0, "accounts: no day file", 1);
+    check(mars_reports(empty, 0, empty, 0, one, 0, results, 0, report, 0) == 0, "accounts: nothing", 0);
+    free((void *)own.batch);
+}
+
 /* Reads a text of exactly these bytes; the totals must be those given, which are the numbers before where it has none. */
 static void reads(const char *text, size_t length, uint64_t result, int64_t ordinary, int64_t fail, int64_t account) {
     int64_t totals[3] = {11, -22, 33};
@@ -275,6 +361,7 @@ int main(int argc, char **argv) {
     inputs();
     borders();
     threads();
+    accounts();
     texts();
     free(day.bytes);
     free(batch.bytes);

@@ -1,11 +1,13 @@
-//! A second opinion on the unit: a reckoner written from the scope alone, accounts to try, and the byte call.
+//! A second opinion on the unit: a reckoner written from the papers alone, accounts to try, and the unit's calls.
 pub mod accounts;
 pub mod cases;
 pub mod fields;
 pub mod files;
+pub mod many;
 pub mod plain;
 pub mod reading;
 pub mod reckoner;
+pub mod requests;
 pub mod rng;
 pub mod samples;
 pub mod text_reading;

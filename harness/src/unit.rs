@@ -5,19 +5,61 @@ use crate::text_reading::Said;
 extern "C" {
     fn mars_report(day: *const u8, day_len: usize, batch: *const u8, batch_len: usize, report: *mut u8, report_len: usize)
         -> u64;
+    fn mars_reports(
+        day: *const u32,
+        day_len: usize,
+        batches: *const u32,
+        batches_len: usize,
+        lengths: *const u32,
+        lengths_len: usize,
+        results: *mut u32,
+        results_len: usize,
+        report: *mut u32,
+        report_len: usize,
+    ) -> u64;
     fn mars_read_text(text: *const u8, text_len: usize, ordinary: *mut i64, fail: *mut i64, account: *mut i64) -> u64;
 }
 
-/// The call as a host makes it: number 0 and the report's length in words, or the refusal.
-pub fn call(day: &[u8], batch: &[u8], memory: &mut [u8]) -> Result<usize, Refusal> {
-    // The byte call has no precondition: any three byte slices may be lent.
-    let r = unsafe { mars_report(day.as_ptr(), day.len(), batch.as_ptr(), batch.len(), memory.as_mut_ptr(), memory.len()) };
-    let (number, value) = ((r >> 32) as u32, (r & 0xffff_ffff) as usize);
+/// A result's two parts: number 0 and a value, or a refusal.
+fn parts(result: u64) -> Result<usize, Refusal> {
+    let (number, value) = ((result >> 32) as u32, (result & 0xffff_ffff) as usize);
     if number == 0 {
         Ok(value)
     } else {
         Err(Refusal { number, place: value })
     }
+}
+
+/// The call as a host makes it: number 0 and the report's length in words, or the refusal.
+pub fn call(day: &[u8], batch: &[u8], memory: &mut [u8]) -> Result<usize, Refusal> {
+    // The byte call has no precondition: any three byte slices may be lent.
+    parts(unsafe { mars_report(day.as_ptr(), day.len(), batch.as_ptr(), batch.len(), memory.as_mut_ptr(), memory.len()) })
+}
+
+/// All accounts in one call: the words written in all, or row 60 or 61.
+pub fn call_all(
+    day: &[u32],
+    batches: &[u32],
+    lengths: &[u32],
+    results: &mut [u32],
+    memory: &mut [u32],
+) -> Result<usize, Refusal> {
+    let (entries, room) = (results.len(), memory.len());
+    // No precondition: any three slices of words to read and any two to write, none overlapping.
+    parts(unsafe {
+        mars_reports(
+            day.as_ptr(),
+            day.len(),
+            batches.as_ptr(),
+            batches.len(),
+            lengths.as_ptr(),
+            lengths.len(),
+            results.as_mut_ptr(),
+            entries,
+            memory.as_mut_ptr(),
+            room,
+        )
+    })
 }
 
 /// A printed text read back. Numbers that are lent for the totals must stay unless the text is a report's.

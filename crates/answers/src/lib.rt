@@ -1,6 +1,8 @@
 // The paper's number and place of a refusal, and the two numbers of an answer.
 ghost use mathlib.Core.Path.{_≡_};
-ghost use Rattle.model.specs.Answers.{numberOf, placeOf, statusOf, valueOf};
+ghost use Prim.Native.Nat.{_^_, _<_};
+ghost use Rattle.model.specs.Answers.{numberOf, placeOf, statusOf, valueOf, packed as packedOf};
+use model::AccountsFault;
 use model::Answer;
 use model::BytesFault;
 use model::Check;
@@ -39,6 +41,10 @@ pub fn number(check: Check) -> u32
         },
         Check::Netting(_, _) => 30,
         Check::Report(_, _) => 40,
+        Check::Accounts(f, _) => match f {
+            AccountsFault::BadLengths => 60,
+            AccountsFault::ShortResults => 61,
+        },
     }
 }
 
@@ -58,10 +64,11 @@ pub fn place(check: Check) -> usize
         Check::Positions(_, p) => p,
         Check::Netting(_, p) => p,
         Check::Report(_, p) => p,
+        Check::Accounts(_, p) => p,
     }
 }
 
-// 0 for a report, else the refusal's number.
+// 0, or the refusal's number.
 pub fn status(answer: Answer) -> u32
     ensures { λ r. ⌜ r ≡ statusOf answer ⌝ }
 {
@@ -71,7 +78,7 @@ pub fn status(answer: Answer) -> u32
     }
 }
 
-// The report's length, or the refusal's place.
+// The words written, or the refusal's place.
 pub fn value(answer: Answer) -> usize
     ensures { λ r. ⌜ r ≡ valueOf answer ⌝ }
 {
@@ -79,4 +86,12 @@ pub fn value(answer: Answer) -> usize
         Answer::Report(n) => n,
         Answer::Refused(check) => place(check),
     }
+}
+
+// Both in one number: status × 2^32 + value.
+pub fn packed(answer: Answer) -> u64
+    requires { ⌜ valueOf answer < 2 ^ 32 ⌝ }
+    ensures { λ r. ⌜ r ≡ packedOf answer ⌝ }
+{
+    status(answer) as u64 * 4294967296 + value(answer) as u64
 }

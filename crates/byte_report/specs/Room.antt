@@ -12,20 +12,15 @@ use lib.Seq.{take-at}
 use Rattle.numbers.specs.Put.{put, put-front}
 use Rattle.model.specs.declared.Answer.the-variants.{Report}
 use Rattle.model.proofs.Length.{report-length}
-use Rattle.model.specs.Report.{wordsNeeded, longestReport}
+use Rattle.model.specs.Report.{longestReport}
 use Rattle.model.specs.Netting.{net, dvp}
 use Rattle.model.specs.Calls.{verdict, answer, answerOf, roomAnswer, needed, report, memoryAfter}
-use Rattle.model.proofs.Read.{count-small}
-use Rattle.model.proofs.Outcome.{answer-report}
+use Rattle.model.proofs.Outcome.{answer-report, needed-most}
 use Rattle.model.specs.Bytes.{wordsOf}
 use Rattle.model.proofs.ByteWords.{words-length}
 use Rattle.byte_room.specs.Room.{roomOf}
 
-pub needed-most : (d b : List ℕ) → needed d b ≤ longestReport
-unfolding wordsNeeded
-needed-most d b = omega (arith, count-small d (net b) (dvp b))
-
--- .. the same answer
+-- the same answer
 same-room : (n room : ℕ) → n ≤ longestReport → roomAnswer n (cond (ltb room longestReport) room longestReport) ≡ roomAnswer n room
 same-room n room h = by (decLe longestReport room)
   where

@@ -9,11 +9,12 @@ use Rattle.model.specs.declared.Verdict.the-variants.{Passed}
 use Rattle.model.specs.Rows.{_orElse_}
 use Rattle.model.specs.Calls.{verdict, Accepted, answer, needed, memoryAfter}
 use Rattle.model.specs.Bytes.{wordsOf, bytesCheck, byteAnswer, bytesAfter}
-use Rattle.corollaries.specs.Untouched.{refused-writes-nothing, length-kept, bytes-refused-writes-nothing, bytes-length-kept}
+use Rattle.corollaries.specs.Untouched.{refused-writes-nothing, bytes-refused-writes-nothing, bytes-length-kept}
 use Rattle.corollaries.specs.Written.{Written, accepted-writes}
 use Rattle.corollaries.specs.Readable.{Readable, readable}
 use Rattle.corollaries.specs.Totals.{Totals, totals-are-margins}
 use Rattle.model.proofs.ByteWords.{bytes-as-words}
+use Rattle.model.proofs.Outcome.{length-kept}
 use Rattle.corollaries.specs.Numbers.{Numbers, byte-numbers, numbers as numbers-of}
 use Rattle.model.specs.Netting.{net, dvp}
 

@@ -9,6 +9,12 @@ pub mod Corollaries
 pub mod Often
 pub mod Batches
 pub mod Numbers
+pub mod RefusalNumbers
+pub mod CallsInTurn
+pub mod AccountEdits
+pub mod InTurn
+pub mod OtherAccounts
+pub mod InsideCall
 pub mod TextFields
 pub mod TextLines
 pub mod TextReading

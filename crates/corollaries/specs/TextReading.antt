@@ -9,11 +9,6 @@ use lib.ListN.{length, drop, getD}
 use lib.Seq.{drop-at, getD-take, getD-drop}
 use Rattle.model.specs.declared.Answer.{Answer}
 use Rattle.model.specs.declared.Check.{Check}
-use Rattle.model.specs.declared.Check.the-variants.{Bytes, DayHeader, DayLength, DayWords, Classes, Series, BatchHeader, BatchLength, BatchWords, Positions, Netting}
-use Rattle.model.specs.declared.BytesFault.the-variants.{DayFile, BatchFile}
-use Rattle.model.specs.declared.ClassFault.the-variants.{ClassOrder, OffsetDiffers}
-use Rattle.model.specs.declared.SeriesFault.the-variants.{ClassAbsent, SeriesOrder, BadType}
-use Rattle.model.specs.declared.PositionFault.the-variants.{SeriesAbsent, ExercisedNonOption, FailNonSecurity, DvpNonSecurity}
 use Rattle.model.specs.declared.TextSays.{TextSays}
 use Rattle.model.specs.declared.TextSays.the-variants.{Refusal}
 use Rattle.model.proofs.Sizes.{amount-small}
@@ -21,6 +16,7 @@ use Rattle.model.specs.Answers.{numberOf, placeOf}
 use Rattle.model.specs.Reading.{countIn, totalIn, amountIn}
 use Rattle.model.specs.Printed.{decimal, signedDecimal, numberField, amountFields, linesText, countText, totalsText, reportText, refusalText, printed, totalHead}
 use Rattle.model.specs.TextReading.{placeRead, refusalRead, accountRead, failRead, totalsRead, lastRead, linesRead, countRead, reportRead, textSays, reportSays}
+use Rattle.corollaries.specs.RefusalNumbers.{numbered}
 use Rattle.corollaries.specs.TextFields.{field-back, amount-back, behind-field}
 use Rattle.corollaries.specs.TextLines.{lines-bytes}
 use Rattle.model.specs.Limits.{mostLines}
@@ -94,28 +90,6 @@ report-back w h =
     (lines-back w n _
     ∙ totals-back n (amountIn w (i + 3 * 0)) (amountIn w (i + 3 * 1)) (amountIn w (i + 3 * 2)) (small w (i + 3 * 0)) (small w (i + 3 * 1)) (small w (i + 3 * 2))
     ∙ λ k. TextSays.Report (record { lines = n; ordinary = total-at w 0 k; fail = total-at w 1 k; account = total-at w 2 k }))
-
--- the numbers of refusals
-numbered : (k : Check) → (0 < numberOf k) × (numberOf k ≤ 40)
-numbered (Bytes DayFile p) = (omega arith, omega arith)
-numbered (Bytes BatchFile p) = (omega arith, omega arith)
-numbered (DayHeader f p) = (omega arith, omega arith)
-numbered (DayLength f p) = (omega arith, omega arith)
-numbered (DayWords f p) = (omega arith, omega arith)
-numbered (Classes ClassOrder p) = (omega arith, omega arith)
-numbered (Classes OffsetDiffers p) = (omega arith, omega arith)
-numbered (Series ClassAbsent p) = (omega arith, omega arith)
-numbered (Series SeriesOrder p) = (omega arith, omega arith)
-numbered (Series BadType p) = (omega arith, omega arith)
-numbered (BatchHeader f p) = (omega arith, omega arith)
-numbered (BatchLength f p) = (omega arith, omega arith)
-numbered (BatchWords f p) = (omega arith, omega arith)
-numbered (Positions SeriesAbsent p) = (omega arith, omega arith)
-numbered (Positions ExercisedNonOption p) = (omega arith, omega arith)
-numbered (Positions FailNonSecurity p) = (omega arith, omega arith)
-numbered (Positions DvpNonSecurity p) = (omega arith, omega arith)
-numbered (Netting f p) = (omega arith, omega arith)
-numbered (Check.Report f p) = (omega arith, omega arith)
 
 -- ---- the text of an answer
 

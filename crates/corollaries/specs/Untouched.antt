@@ -17,7 +17,7 @@ use Rattle.model.specs.Netting.{net, dvp}
 use Rattle.model.specs.Calls.{verdict, answer, answerOf, roomAnswer, needed, report, memoryAfter}
 use Rattle.model.specs.Bytes.{wordsOf, bytesOf, bytesCheck, byteAnswer, bytesAfter, writtenBytes}
 use Rattle.model.proofs.Length.{report-length}
-use Rattle.model.proofs.Outcome.{leaves-length, leaves-all}
+use Rattle.model.proofs.Outcome.{leaves-all}
 
 pub refused-writes-nothing : (d b m : List ℕ) (k : Check) → answer d b (length m) ≡ Refused k → memoryAfter d b m ≡ m
 unfolding memoryAfter
@@ -30,10 +30,6 @@ bytes-refused-writes-nothing day b m k e = ap (λ (a : Answer). writtenBytes a (
 -- n words over the front of as many or more
 over : (w m : List ℕ) (n : ℕ) → length w ≡ n → n ≤ length m → length (w ++ drop n m) ≡ length m
 over w m n e h = omega (arith, length-append w (drop n m), length-drop n m)
-
-pub length-kept : (d b m : List ℕ) → length (memoryAfter d b m) ≡ length m
-unfolding memoryAfter answer
-length-kept d b m = leaves-length (verdict d b) (needed d b) (report d b) m (report-length d (net b) (net b) (dvp b))
 
 -- ---- the byte call
 

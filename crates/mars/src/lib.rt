@@ -1,9 +1,10 @@
-// The C entries: the report of two files given as bytes; a printed text read back.
+// The C entries: the report of two files given as bytes; the reports of all accounts of a broker; a printed text read back.
 ghost use mathlib.Core.Path.{_≡_};
 ghost use Prim.Native.Nat.{_+_, _*_, _^_};
 ghost use lib.ListN.{length};
-ghost use Rattle.model.specs.Answers.{statusOf, valueOf};
+ghost use Rattle.model.specs.Answers.{packed};
 ghost use Rattle.model.specs.Bytes.{byteAnswer, bytesAfter};
+ghost use Rattle.model.specs.ManyAccounts.{reportsAnswer, resultsAfter, reportsAfter};
 ghost use Rattle.model.specs.TextReading.{textSays, textNumber, textValue, totalAfter};
 use byte_report::byte_report;
 use model::TextSays;
@@ -12,11 +13,26 @@ use text_reading::read_text;
 // Number × 2^32 + value: 0 and the report's length in words, or the refusal's number and place.
 #[no_mangle]
 pub extern "C" fn mars_report(day: &[u8], batch: &[u8], report: &mut [u8]) -> u64
-    ensures result { λ r. ⌜ r ≡ statusOf (byteAnswer (now (day .entry)) (now (batch .entry)) (length (now (report .entry)))) * 2 ^ 32 + valueOf (byteAnswer (now (day .entry)) (now (batch .entry)) (length (now (report .entry)))) ⌝ }
+    ensures result { λ r. ⌜ r ≡ packed (byteAnswer (now (day .entry)) (now (batch .entry)) (length (now (report .entry)))) ⌝ }
     ensures report { λ _. ⌜ now (report .exit) ≡ bytesAfter (now (day .entry)) (now (batch .entry)) (now (report .entry)) ⌝ }
 {
-    let answer = byte_report(day, batch, report);
-    words::wide(answers::status(answer)) * 4294967296 + answers::value(answer) as u64
+    answers::packed(byte_report(day, batch, report))
+}
+
+// The same of all accounts of a broker: 0 and the words written in all, or the number and place of row 60 or 61.
+#[no_mangle]
+pub extern "C" fn mars_reports(
+    day: &[u32],
+    batches: &[u32],
+    lengths: &[u32],
+    results: &mut [u32],
+    report: &mut [u32],
+) -> u64
+    ensures result { λ r. ⌜ r ≡ packed (reportsAnswer (now (day .entry)) (now (batches .entry)) (now (lengths .entry)) (length (now (results .entry))) (length (now (report .entry)))) ⌝ }
+    ensures results { λ _. ⌜ now (results .exit) ≡ resultsAfter (now (day .entry)) (now (batches .entry)) (now (lengths .entry)) (now (results .entry)) (length (now (report .entry))) ⌝ }
+    ensures report { λ _. ⌜ now (report .exit) ≡ reportsAfter (now (day .entry)) (now (batches .entry)) (now (lengths .entry)) (length (now (results .entry))) (now (report .entry)) ⌝ }
+{
+    answers::packed(accounts::reports(day, batches, lengths, results, report))
 }
 
 // Number × 2^32 + value: 0 and the line count of a printed report, whose totals are stored, a refusal's number and place, or

@@ -1,16 +1,18 @@
--- The definitions against worked figures, in one place: M1 to M9, the accounts on which seen mistakes show, what none of these shows, and a refusal of each row.
+-- The definitions against worked figures, in one place: M1 to M9, the accounts on which seen mistakes show, what none of these shows, a refusal of each row, and the call for many accounts.
 use mathlib.Core.Path.{_≡_}
 use Rattle.model.specs.Accounts.{allComputed, allPublished}
 use Rattle.model.specs.Figures.{figures, figures-agree}
 use Rattle.model.specs.Mistakes.{mistakes, mistakes-agree}
 use Rattle.model.specs.Cases.{cases, cases-agree}
 use Rattle.model.specs.Refusals.{refusals, refusals-agree}
+use Rattle.model.specs.ManyFigures.{brokers, brokers-agree}
 
 pub record Agreement : Type 0 where
   pub scope : allComputed figures ≡ allPublished figures
   pub mistaken : allComputed mistakes ≡ allPublished mistakes
   pub further : allComputed cases ≡ allPublished cases
   pub refused : allComputed refusals ≡ allPublished refusals
+  pub many : allComputed brokers ≡ allPublished brokers
 
 pub agreement : Agreement
 agreement =
@@ -19,4 +21,5 @@ agreement =
       mistaken = mistakes-agree;
       further = cases-agree;
       refused = refusals-agree;
+      many = brokers-agree;
     }

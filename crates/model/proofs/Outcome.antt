@@ -13,7 +13,11 @@ use Rattle.model.specs.declared.Check.{Check}
 use Rattle.model.specs.declared.ReportFault.the-variants.{TooShort}
 use Rattle.model.specs.declared.Verdict.{Verdict}
 use Rattle.model.specs.declared.Verdict.the-variants.{Passed, Failed}
+use Rattle.model.specs.Netting.{net, dvp}
 use Rattle.model.specs.Calls.{verdict, Accepted, report, needed, outcome, answer, written, memoryAfter}
+use Rattle.model.specs.Report.{wordsNeeded, longestReport}
+use Rattle.model.proofs.Read.{count-small}
+use Rattle.model.proofs.Length.{report-length}
 
 -- all rows pass and there is room
 pub outcome-passed : (v : Verdict) (n room : ℕ) → v ≡ Passed → n ≤ room → outcome v n room ≡ Report n
@@ -48,6 +52,11 @@ leaves-all a k w m e = ap (λ (x : Answer). written x w m) e
 
 -- ---- the call over words
 
+-- no report is longer than the longest
+pub needed-most : (d b : List ℕ) → needed d b ≤ longestReport
+unfolding wordsNeeded
+needed-most d b = omega (arith, count-small d (net b) (dvp b))
+
 -- an answer that is a report: the account is accepted, and the memory has room for so many words
 pub answer-report : (d b : List ℕ) (room k : ℕ) → answer d b room ≡ Report k → Accepted d b × (k ≡ needed d b) × (needed d b ≤ room)
 unfolding answer
@@ -62,3 +71,8 @@ memory-is d b m a h = leaves-words (verdict d b) (needed d b) (report d b) m a h
 pub memory-of : (d b m : List ℕ) (r : Answer) → r ≡ answer d b (length m) → written r (report d b) m ≡ memoryAfter d b m
 unfolding memoryAfter
 memory-of d b m r e = ap (λ (a : Answer). written a (report d b) m) e
+
+-- no call changes the memory's length
+pub length-kept : (d b m : List ℕ) → length (memoryAfter d b m) ≡ length m
+unfolding memoryAfter answer
+length-kept d b m = leaves-length (verdict d b) (needed d b) (report d b) m (report-length d (net b) (net b) (dvp b))

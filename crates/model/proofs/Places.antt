@@ -5,12 +5,13 @@ use mathlib.Core.List.{List}
 use Prim.Native.Nat.{ℕ, _+_, _/_, _^_, _<_}
 use native.Mathlib.Omega.{arith}
 use lib.Dec.{leb}
+use lib.ListN.{length}
 use Rattle.numbers.specs.declared.Found.{Found}
 use Rattle.numbers.specs.declared.Found.the-variants.{At, Nothing}
 use Rattle.numbers.specs.Scan.{firstBad, first-at}
 use Rattle.model.specs.declared.Answer.{Answer}
 use Rattle.model.specs.declared.Check.{Check}
-use Rattle.model.specs.declared.Check.the-variants.{Bytes, DayHeader, DayLength, DayWords, Classes, Series, BatchHeader, BatchLength, BatchWords, Positions, Netting}
+use Rattle.model.specs.declared.Check.the-variants.{Bytes, DayHeader, DayLength, DayWords, Classes, Series, BatchHeader, BatchLength, BatchWords, Positions, Netting, Accounts}
 use Rattle.model.specs.declared.BytesFault.the-variants.{DayFile, BatchFile}
 use Rattle.model.specs.declared.DayHeaderFault.the-variants.{BadDayHeader}
 use Rattle.model.specs.declared.DayLengthFault.the-variants.{BadDayLength}
@@ -23,6 +24,7 @@ use Rattle.model.specs.declared.BatchWordsFault.the-variants.{BadBatchWo
 use Rattle.model.specs.declared.PositionFault.the-variants.{SeriesAbsent, ExercisedNonOption, FailNonSecurity, DvpNonSecurity}
 use Rattle.model.specs.declared.NettingFault.the-variants.{NetTooLarge}
 use Rattle.model.specs.declared.ReportFault.the-variants.{TooShort}
+use Rattle.model.specs.declared.AccountsFault.the-variants.{BadLengths, ShortResults}
 use Rattle.model.specs.declared.Verdict.{Verdict}
 use Rattle.model.specs.declared.Verdict.the-variants.{Passed, Failed}
 use Rattle.model.specs.Answers.{placeOf, valueOf}
@@ -31,11 +33,12 @@ use Rattle.model.specs.DayFile.{classCount, seriesCount}
 use Rattle.model.specs.DayChecks.{row10, row11, row12, row13, row14, row15, row16, row17, classCheck, seriesCheck, recordCheck, dayCheck}
 use Rattle.model.specs.Batch.{recordCount}
 use Rattle.model.specs.BatchChecks.{row20, row21, row22, row23, row24, row25, row26, batchForm, positionCheck, batchCheck}
-use Rattle.model.specs.Netting.{net, dvp, row30, nettingCheck}
-use Rattle.model.specs.Report.{wordsNeeded}
+use Rattle.model.specs.Netting.{row30, nettingCheck}
 use Rattle.model.specs.Calls.{verdict, answer, answerOf, roomAnswer, needed}
 use Rattle.model.specs.Bytes.{wordsOf, row1, row2, bytesCheck, byteAnswer}
-use Rattle.model.proofs.Read.{count-small}
+use Rattle.model.specs.ManyAccounts.{batchOf, row60, row61, accountsCheck, reportStart, reportsAnswer}
+use Rattle.model.proofs.Outcome.{needed-most}
+use Rattle.model.proofs.InTurn.{accounts-checked, start-most}
 use Rattle.model.proofs.Verdicts.{Each, _then_, tried-each}
 
 abbrev placeIn : Verdict → ℕ
@@ -108,16 +111,26 @@ room-low n room h = by (leb n room)
     by true = h
     by false = h
 
-answer-low : (v : Verdict) (a : Answer) → Low v → valueOf a < 2 ^ 32 → valueOf (answerOf v a) < 2 ^ 32
-answer-low Passed a p q = q
+answer-low : (v : Verdict) (a : Answer) → Low v → (v ≡ Passed → valueOf a < 2 ^ 32) → valueOf (answerOf v a) < 2 ^ 32
+answer-low Passed a p q = q refl
 answer-low (Failed k) a p q = p .low
 
 pub value-small : (d b : List ℕ) (room : ℕ) → valueOf (answer d b room) < 2 ^ 32
-unfolding answer wordsNeeded
+unfolding answer
 value-small d b room =
-    answer-low (verdict d b) (roomAnswer (needed d b) room) (verdict-low d b) (room-low (needed d b) room (omega (arith, count-small d (net b) (dvp b))))
+    answer-low (verdict d b) (roomAnswer (needed d b) room) (verdict-low d b) (λ e. room-low (needed d b) room (omega (arith, needed-most d b)))
 
 pub byte-value-small : (day batch : List ℕ) (room : ℕ) → valueOf (byteAnswer day batch room) < 2 ^ 32
 unfolding byteAnswer bytesCheck
 byte-value-small day batch room =
-    answer-low (bytesCheck day batch) (answer (wordsOf day) (wordsOf batch) (room / 4)) (all-low _ (plain-low (Bytes DayFile) (row1 day) refl then plain-low (Bytes BatchFile) (row2 batch) refl then tt)) (value-small (wordsOf day) (wordsOf batch) (room / 4))
+    answer-low (bytesCheck day batch) (answer (wordsOf day) (wordsOf batch) (room / 4)) (all-low _ (plain-low (Bytes DayFile) (row1 day) refl then plain-low (Bytes BatchFile) (row2 batch) refl then tt)) (λ e. value-small (wordsOf day) (wordsOf batch) (room / 4))
+
+accounts-low : (bs ns : List ℕ) (entries : ℕ) → Low (accountsCheck bs ns entries)
+unfolding accountsCheck
+accounts-low bs ns entries = all-low _ (plain-low (Accounts BadLengths) (row60 bs ns) refl then plain-low (Accounts ShortResults) (row61 ns entries) refl then tt)
+
+pub reports-value-small : (d bs ns : List ℕ) (entries room : ℕ) → valueOf (reportsAnswer d bs ns entries room) < 2 ^ 32
+unfolding reportsAnswer
+reports-value-small d bs ns entries room =
+    answer-low (accountsCheck bs ns entries) (Answer.Report (reportStart d (batchOf bs ns) room (length ns))) (accounts-low bs ns entries)
+    (λ e. omega (arith, start-most d (batchOf bs ns) room (length ns), accounts-checked bs ns entries e .few))

@@ -1,13 +1,14 @@
--- The number and the place of a refusal, and the two numbers that an answer is: 0 and the length of the report, or the refusal's number and place.
-use Prim.Native.Nat.{ℕ}
+-- The number and the place of a refusal, and the two numbers that an answer is: 0 and the words written, or the refusal's number and place.
+use Prim.Native.Nat.{ℕ, _+_, _*_, _^_}
 use Rattle.model.specs.declared.Answer.{Answer}
 use Rattle.model.specs.declared.Answer.the-variants.{Refused}
 use Rattle.model.specs.declared.Check.{Check}
-use Rattle.model.specs.declared.Check.the-variants.{Bytes, DayHeader, DayLength, DayWords, Classes, Series, BatchHeader, BatchLength, BatchWords, Positions, Netting}
+use Rattle.model.specs.declared.Check.the-variants.{Bytes, DayHeader, DayLength, DayWords, Classes, Series, BatchHeader, BatchLength, BatchWords, Positions, Netting, Accounts}
 use Rattle.model.specs.declared.BytesFault.the-variants.{DayFile, BatchFile}
 use Rattle.model.specs.declared.ClassFault.the-variants.{ClassOrder, OffsetDiffers}
 use Rattle.model.specs.declared.SeriesFault.the-variants.{ClassAbsent, SeriesOrder, BadType}
 use Rattle.model.specs.declared.PositionFault.the-variants.{SeriesAbsent, ExercisedNonOption, FailNonSecurity, DvpNonSecurity}
+use Rattle.model.specs.declared.AccountsFault.the-variants.{BadLengths, ShortResults}
 
 abbrev pub numberOf : Check → ℕ
 numberOf (Bytes DayFile p) = 1
@@ -29,6 +30,8 @@ numberOf (Positions FailNonSecurity p) = 25
 numberOf (Positions DvpNonSecurity p) = 26
 numberOf (Netting f p) = 30
 numberOf (Check.Report f p) = 40
+numberOf (Accounts BadLengths p) = 60
+numberOf (Accounts ShortResults p) = 61
 
 abbrev pub placeOf : Check → ℕ
 placeOf (Bytes f p) = p
@@ -43,6 +46,7 @@ placeOf (BatchWords f p) = p
 placeOf (Positions f p) = p
 placeOf (Netting f p) = p
 placeOf (Check.Report f p) = p
+placeOf (Accounts f p) = p
 
 abbrev pub statusOf : Answer → ℕ
 statusOf (Answer.Report n) = 0
@@ -51,3 +55,7 @@ statusOf (Refused k) = numberOf k
 abbrev pub valueOf : Answer → ℕ
 valueOf (Answer.Report n) = n
 valueOf (Refused k) = placeOf k
+
+-- both in one number, as every C entry returns them
+abbrev pub packed : Answer → ℕ
+packed a = statusOf a * 2 ^ 32 + valueOf a

@@ -27,6 +27,10 @@ mostSeries = 256
 abbrev pub mostRecords : ℕ
 mostRecords = 256
 
+-- the accounts of one call
+abbrev pub mostAccounts : ℕ
+mostAccounts = 64
+
 -- the product groups, numbered from 0; each has at most one line in each of the two books
 abbrev pub groupCount : ℕ
 groupCount = 29

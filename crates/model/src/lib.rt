@@ -1,6 +1,6 @@
 // The answers of the margin report. What each means, with its number, is in specs/Answers.antt.
 
-// The answer of a call: the length of the report written, or the check that refused.
+// The answer of a call: the words written, or the check that refused.
 pub enum Answer {
     Report(usize),
     Refused(Check),
@@ -26,6 +26,7 @@ pub enum Check {
     Positions(PositionFault, usize),
     Netting(NettingFault, usize),
     Report(ReportFault, usize),
+    Accounts(AccountsFault, usize),
 }
 
 // Rows 1 and 2.
@@ -93,6 +94,12 @@ pub enum NettingFault {
 // Row 40.
 pub enum ReportFault {
     TooShort,
+}
+
+// Rows 60 and 61.
+pub enum AccountsFault {
+    BadLengths,
+    ShortResults,
 }
 
 // What a printed text says: a report's line count and totals, a refusal's number and place, or neither.

@@ -5,7 +5,7 @@ use Prim.Native.Nat.{ℕ, _+_, _-_, _≤_, _<_}
 use native.Mathlib.Nat.{le-of-eq}
 use native.Mathlib.Numerals.{add-one}
 use native.Mathlib.Omega.{arith}
-use lib.ListN.{length, take, drop, getD, set, length-append, length-drop, take-append-drop, drop-of-length-le}
+use lib.ListN.{length, take, drop, getD, set, length-append, length-set, length-drop, take-append-drop, drop-of-length-le}
 use lib.Seq.{length-take-le, take-suc, take-at, take-all, drop-append-add, drop-drop, set-split}
 use borrow.Rule.Slice.PartMut.{putMid, midOf}
 unfoldable pub use Rattle.numbers.specs.Definitions.{put}
@@ -57,6 +57,14 @@ module _ {A : Type 0} where
       ∙ append-assoc p w (v ++ drop (at + length (w ++ v)) l)
       ∙ ap (λ (s : List A). p ++ s) (sym (append-assoc w v (drop (at + length (w ++ v)) l)))
 
+  -- two stores, one behind the other
+  pub put-two : (l : List A) (at : ℕ) (a b : A) → at + 2 ≤ length l → set (set l at a) (at + 1) b ≡ put at (a ∷ b ∷ []) l
+  put-two l at a b h =
+      let n = length-set l at a in
+      put-one (set l at a) (at + 1) b (omega arith)
+      ∙ ap (put (at + 1) (b ∷ [])) (put-one l at a (omega arith))
+      ∙ put-put at (a ∷ []) (b ∷ []) l (at + 1) (omega arith) (omega arith)
+
   -- the same of two functions that write, each returning the place behind what it wrote
   pub put-then : (at : ℕ) (w v l : List A) {n q : ℕ} {m₁ m₂ : List A} → (n ≡ at + length w) × (m₁ ≡ put at w l) → (q ≡ n + length v) × (m₂ ≡ put n v m₁)
       → n + length v ≤ length l → (q ≡ at + length (w ++ v)) × (m₂ ≡ put at (w ++ v) l)
@@ -72,11 +80,18 @@ module _ {A : Type 0} where
       ∙ put-put at (take i w) (getD w i a ∷ []) l (at + i) (omega arith) (omega arith)
       ∙ ap (λ (x : List A). put at x l) (sym (ap (λ (m : ℕ). take m w) (add-one i) ∙ take-suc w i a h))
 
-  -- what is written over the front of the part from `at` on, said of the whole
+  -- the part from `at` on, lent as such
+  pub rest-is : (at : ℕ) (l : List A) → midOf at (length l - at) l ≡ drop at l
+  rest-is at l = take-all (length l - at) (drop at l) (le-of-eq (length-drop at l))
+
+  -- what f makes of it, said of the whole
+  pub rest-part : (at : ℕ) (l last : List A) (f : List A → List A) → last ≡ f (midOf at (length l - at) l) → putMid at (length l - at) l last ≡ take at l ++ f (drop at l)
+  rest-part at l last f e =
+      rw (drop-of-length-le (drop at l) (le-of-eq (length-drop at l)), append-nil) (ap (λ (x : List A). take at l ++ x) (e ∙ ap f (rest-is at l)))
+
+  -- .. where it writes over the front
   pub put-part : (at : ℕ) (w l last : List A) → last ≡ put 0 w (midOf at (length l - at) l) → putMid at (length l - at) l last ≡ put at w l
   unfolding put
   put-part at w l last e =
-      let s : length (drop at l) ≤ length l - at = le-of-eq (length-drop at l) in
-      let m : midOf at (length l - at) l ≡ drop at l = take-all (length l - at) (drop at l) s in
-      let f : put 0 w (drop at l) ≡ w ++ drop (at + length w) l = put-front w (drop at l) ∙ ap (λ (x : List A). w ++ x) (drop-drop (length w) at l) in
-      rw (drop-of-length-le (drop at l) s, append-nil) (ap (λ (x : List A). take at l ++ x) (e ∙ ap (put 0 w) m ∙ f))
+      rest-part at l last (put 0 w) e
+      ∙ ap (λ (x : List A). take at l ++ x) (put-front w (drop at l) ∙ ap (λ (x : List A). w ++ x) (drop-drop (length w) at l))

@@ -1,6 +1,7 @@
-//! The byte call against the same work in plain Rust: medians in one run, on the largest and on a typical account; then netting
-//! alone. From the top folder: `rt staticlib mars`, `rt staticlib netting_times`; here `cargo run --release --features bench --bin bench`.
-use harness::accounts::{accepted, Account, Size, LARGEST, TYPICAL};
+//! The byte call against the same work in plain Rust: medians in one run, on the largest and on a typical account; all accounts of
+//! a broker in one call against as many byte calls; then netting alone. From the top folder: `rt staticlib mars`, `rt staticlib netting_times`; here `cargo run --release --features bench --bin bench`.
+use harness::accounts::{accepted, batch, Account, Size, LARGEST, TYPICAL};
+use harness::many::joined;
 use harness::plain;
 use harness::reckoner::{reckon, to_bytes};
 use harness::rng::Rng;
@@ -81,6 +82,36 @@ fn run(name: &str, size: Size) {
     );
 }
 
+/// 64 accounts of one day file in one call, beside a byte call for each: the ratio.
+fn run_accounts(name: &str, size: Size) -> f64 {
+    let a = account(size);
+    let mut rng = Rng::new(64);
+    let fresh = std::iter::from_fn(|| Some(batch(&mut rng, &a.day, size.records as usize)));
+    let batches: Vec<Vec<u32>> = fresh.filter(|b| reckon(&a.day, b).is_ok()).take(64).collect();
+    let (day, files): (Vec<u8>, Vec<Vec<u8>>) = (to_bytes(&a.day), batches.iter().map(|b| to_bytes(b)).collect());
+    let (words, lengths) = joined(&batches);
+    let (mut results, mut memory) = ([0u32; 128], vec![0u32; 64 * 1115]);
+    let mut report = vec![0u8; 4460];
+    let written = unit::call_all(&a.day, &words, &lengths, &mut results, &mut memory).expect("accepted");
+    let singly: usize = files.iter().map(|b| unit::call(&day, b, &mut report).expect("accepted")).sum();
+    assert_eq!(written, singly);
+    let one_call = || {
+        black_box(unit::call_all(black_box(&a.day), black_box(&words), &lengths, &mut results, black_box(&mut memory))).ok();
+    };
+    let byte_calls = || {
+        for b in &files {
+            black_box(unit::call(black_box(&day), black_box(b), black_box(&mut report))).ok();
+        }
+    };
+    let (one, many) = medians(one_call, byte_calls);
+    let ratio = one / many;
+    println!(
+        "64 accounts, {name}: {} records each, {written} words of reports: one call {one:.0} ns, 64 byte calls {many:.0} ns, ratio {ratio:.2}",
+        size.records,
+    );
+    ratio
+}
+
 type Tables = ([i64; 1024], [i64; 1024]);
 
 /// Step 1 alone on the largest account's batch, `TIMES` + 1 nettings a call.
@@ -119,5 +150,8 @@ fn main() {
     println!("medians of {SAMPLES} samples each, taken in turns; the report memory is not cleared between calls");
     run("largest", LARGEST);
     run("typical", TYPICAL);
+    let typical = run_accounts("typical", TYPICAL);
+    run_accounts("largest", LARGEST);
     run_netting();
+    assert!(typical < 0.8, "one call for 64 accounts takes more than 0.8 of 64 byte calls");
 }

@@ -1,0 +1,53 @@
+//! The cases of ../vectors/U01.txt: lines of a name and plain numbers, an empty line behind each case.
+use std::collections::BTreeMap;
+use std::fs;
+use std::path::Path;
+
+pub struct Case {
+    /// The request, the case's number in its file and the call.
+    pub name: String,
+    fields: BTreeMap<String, Vec<u64>>,
+}
+
+impl Case {
+    fn field(&self, name: &str) -> &[u64] {
+        self.fields.get(name).unwrap_or_else(|| panic!("{}: no {name}", self.name))
+    }
+
+    pub fn words(&self, name: &str) -> Vec<u32> {
+        self.field(name).iter().map(|&n| u32::try_from(n).expect("a word")).collect()
+    }
+
+    /// A lent memory: so many entries as the line says, each 7.
+    pub fn lent(&self, name: &str) -> Vec<u32> {
+        vec![7; self.field(name)[0] as usize]
+    }
+
+    /// Number and value of the answer.
+    pub fn answer(&self) -> (u32, usize) {
+        let answer = self.field("answer");
+        assert_eq!(answer.len(), 2, "{}", self.name);
+        (answer[0] as u32, answer[1] as usize)
+    }
+}
+
+/// The cases of a request, numbered from 0 without a gap, as many as are said to be there.
+pub fn cases(request: &str, count: usize) -> Vec<Case> {
+    let path = Path::new(env!("CARGO_MANIFEST_DIR")).join("../vectors").join(format!("{request}.txt"));
+    let text = fs::read_to_string(&path).unwrap_or_else(|e| panic!("{}: {e}", path.display()));
+    let mut out: Vec<Case> = Vec::new();
+    for line in text.lines().filter(|l| !l.is_empty()) {
+        let mut parts = line.split(' ');
+        let name = parts.next().expect("a name");
+        if name == "case" {
+            assert_eq!(parts.next(), Some(out.len().to_string().as_str()), "{request}: {line}");
+            out.push(Case { name: format!("{request} {line}"), fields: BTreeMap::new() });
+            continue;
+        }
+        let numbers = parts.map(|n| n.parse().unwrap_or_else(|e| panic!("{request}: {line}: {e}"))).collect();
+        let case = out.last_mut().expect("a case");
+        assert!(case.fields.insert(name.to_string(), numbers).is_none(), "{}: {name} twice", case.name);
+    }
+    assert_eq!(out.len(), count, "{}", path.display());
+    out
+}
