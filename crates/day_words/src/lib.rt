@@ -20,8 +20,6 @@ use day_file::series_word;
 use numbers::Found;
 use words::PAYLOAD_LIMIT;
 use words::bad_word;
-use words::kind;
-use words::payload;
 
 // The largest multiplier.
 const MULTIPLIER_LIMIT: u32 = 10000;
@@ -29,11 +27,17 @@ const MULTIPLIER_LIMIT: u32 = 10000;
 // The largest payload of a class's key: bits 11 on are spare.
 const CLASS_KEY_LIMIT: u32 = 2047;
 
-// A price or rate: kind 3, at most what the points' accumulator takes.
+// The word of price 0: kind 3.
+const ZERO_PRICE: u32 = 3 * (PAYLOAD_LIMIT + 1);
+
+// A price or rate: kind 3, at most what the points' accumulator takes. A word of a higher kind lies further from price 0 than any price.
 fn bad_price(w: u32) -> bool
     ensures { λ r. ⌜ r ≡ badPrice w ⌝ }
 {
-    (kind(w) != 3) | Points::price_too_large(payload(w))
+    if w < ZERO_PRICE {
+        return true;
+    }
+    Points::price_too_large(w - ZERO_PRICE)
 }
 
 // Word i of class c: the key, the offset, or a price or rate.
