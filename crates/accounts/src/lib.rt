@@ -4,7 +4,7 @@ ghost use lib.ListN.{length};
 ghost use Rattle.model.specs.DayChecks.{dayCheck};
 ghost use Rattle.model.specs.ManyAccounts.{batchOf, reportStart, memoryTo, resultsTo, reportsAnswer, resultsAfter, reportsAfter};
 ghost use Rattle.model.specs.declared.Verdict.the-variants.{Passed};
-ghost use Rattle.model.proofs.InTurn.{AccountsRows};
+ghost use Rattle.model.proofs.ManyAccounts.{AccountsRows};
 ghost use Rattle.classes.specs.Starts.{startTable};
 use account_results::words_in;
 use account_turn::turn;

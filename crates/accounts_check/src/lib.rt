@@ -11,7 +11,7 @@ use words::index;
 use words::word_at;
 
 // The accounts of one call.
-pub const MOST_ACCOUNTS: usize = 64;
+const MOST_ACCOUNTS: usize = 64;
 
 // The numbers of an account in the result list.
 pub const RESULT_NUMBERS: usize = 2;

@@ -88,10 +88,13 @@ pub fn value(answer: Answer) -> usize
     }
 }
 
-// Both in one number: status × 2^32 + value.
+// What a number counts for beside its value: 2^32.
+pub const NUMBER_UNIT: u64 = 4294967296;
+
+// Both in one number.
 pub fn packed(answer: Answer) -> u64
     requires { ⌜ valueOf answer < 2 ^ 32 ⌝ }
     ensures { λ r. ⌜ r ≡ packedOf answer ⌝ }
 {
-    status(answer) as u64 * 4294967296 + value(answer) as u64
+    status(answer) as u64 * NUMBER_UNIT + value(answer) as u64
 }

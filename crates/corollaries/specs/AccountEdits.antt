@@ -9,7 +9,7 @@ use lib.ListN.{length, take, drop, getD, set, length-append, length-drop, length
 use lib.Seq.{take-at, drop-at, drop-drop, length-take-le, take-append-le, drop-append-le, drop-append-add, getD-set-same, getD-set-other}
 use Rattle.model.specs.ManyAccounts.{wordsBefore, batchOf}
 use Rattle.model.specs.OtherAccounts.{editedBatches, editedLengths}
-use Rattle.model.proofs.InTurn.{AccountsRows, before-mono}
+use Rattle.model.proofs.ManyAccounts.{AccountsRows, before-mono}
 
 before-suc : (ns : List ℕ) (i : ℕ) → wordsBefore ns (suc i) ≡ wordsBefore ns i + getD ns i 0
 unfolding wordsBefore

@@ -11,12 +11,11 @@ use Rattle.numbers.specs.Put.{put, put-none, put-front, put-put}
 use Rattle.model.specs.declared.Answer.{Answer}
 use Rattle.model.specs.declared.Answer.the-variants.{Report, Refused}
 use Rattle.model.specs.declared.Check.{Check}
-use Rattle.model.specs.declared.Verdict.the-variants.{Passed}
 use Rattle.model.specs.Netting.{net, dvp}
-use Rattle.model.specs.Calls.{verdict, answer, needed, report, memoryAfter, written}
+use Rattle.model.specs.Calls.{answer, report, memoryAfter, written}
 use Rattle.model.specs.ManyAccounts.{resultNumbers, wordsIn, pairOf, reportStart, answerFor, memoryTo, resultsTo}
 use Rattle.model.proofs.Length.{report-length}
-use Rattle.model.proofs.Outcome.{answer-report}
+use Rattle.model.proofs.Outcome.{answer-by}
 
 -- ---- one call
 
@@ -26,11 +25,8 @@ wrote (Report n) w = w
 wrote (Refused k) w = []
 
 wrote-long : (d b : List ℕ) (room : ℕ) → length (wrote (answer d b room) (report d b)) ≡ wordsIn (answer d b room)
-wrote-long d b room = by (answer d b room) (λ k e. answer-report d b room k e)
-  where
-    by : (a : Answer) → ((k : ℕ) → a ≡ Report k → (verdict d b ≡ Passed) × (k ≡ needed d b) × (needed d b ≤ room)) → length (wrote a (report d b)) ≡ wordsIn a
-    by (Report k) h = report-length d (net b) (net b) (dvp b) ∙ sym (h k refl .1)
-    by (Refused c) h = refl
+wrote-long d b room =
+    answer-by d b room (λ a. length (wrote a (report d b)) ≡ wordsIn a) (λ h. report-length d (net b) (net b) (dvp b)) (λ c. refl)
 
 -- the memory after it: what it wrote, then the words that were behind
 wrote-is : (a : Answer) (w m : List ℕ) → written a w m ≡ wrote a w ++ drop (wordsIn a) m
@@ -52,7 +48,7 @@ module _ (d : List ℕ) (b : ℕ → List ℕ) (m : List ℕ) where
   abbrev pub wordsFor : ℕ → List ℕ
   wordsFor i = wrote (answerFor d b (length m) i) (report d (b i))
 
-  pub words-long : (i : ℕ) → length (wordsFor i) ≡ wordsIn (answerFor d b (length m) i)
+  words-long : (i : ℕ) → length (wordsFor i) ≡ wordsIn (answerFor d b (length m) i)
   words-long i = wrote-long d (b i) (length m - reportStart d b (length m) i)
 
   -- the reports of the accounts below i, end to end, are as long as the place where the next starts

@@ -14,7 +14,8 @@ use Rattle.model.specs.Answers.{numberOf}
 use Rattle.model.specs.Calls.{answerOf, report}
 use Rattle.model.specs.ManyAccounts.{batchOf, resultNumbers, accountsCheck, wordsIn, pairOf, reportStart, answerFor, memoryTo, leftBy, reportsAnswer, resultsAfter, reportsAfter}
 use Rattle.model.specs.OtherAccounts.{lengthOf, pairAt, startAt, reportAt, InTurn}
-use Rattle.model.proofs.InTurn.{AccountsRows, accounts-checked, results-long, memory-long, results-past, memory-past}
+use Rattle.model.proofs.ManyAccounts.{AccountsRows, accounts-checked, results-long, memory-long, results-past, memory-past}
+use Rattle.model.proofs.Outcome.{refused-not}
 use Rattle.model.proofs.Places.{reports-value-small}
 use Rattle.corollaries.specs.RefusalNumbers.{numbered}
 use Rattle.corollaries.specs.CallsInTurn.{wrote, wordsFor, words-read, memory-behind, refused-start, pair-read, results-behind}
@@ -38,10 +39,10 @@ module _ (d bs ns rs m : List ℕ) (e : accountsCheck bs ns (length rs) ≡ Pass
       ap (λ (l : List ℕ). take resultNumbers (drop (resultNumbers * k) l)) (results-past d bs ns rs (length m) e)
       ∙ pair-read d b (length m) rs k (length ns) h (ok .list)
 
-  pub length-is : (k : ℕ) → k < length ns → lengthOf (pairAt d bs ns rs m k) ≡ wordsIn (answerFor d b (length m) k)
+  length-is : (k : ℕ) → k < length ns → lengthOf (pairAt d bs ns rs m k) ≡ wordsIn (answerFor d b (length m) k)
   length-is k h = ap lengthOf (pair-is k h) ∙ length-pair (answerFor d b (length m) k)
 
-  pub start-is : (k : ℕ) → k ≤ length ns → startAt d bs ns rs m k ≡ reportStart d b (length m) k
+  start-is : (k : ℕ) → k ≤ length ns → startAt d bs ns rs m k ≡ reportStart d b (length m) k
   unfolding startAt reportStart
   start-is zero h = refl
   start-is (suc k) h = λ i. start-is k (omega arith) i + length-is k h i
@@ -54,7 +55,7 @@ module _ (d bs ns rs m : List ℕ) (e : accountsCheck bs ns (length rs) ≡ Pass
 -- ---- every call
 
 refused-leaves : (v : Verdict) (done l done′ l′ : List ℕ) (n : ℕ) (c : Check) → answerOf v (Report n) ≡ Refused c → (leftBy v done l ≡ l) × (leftBy v done′ l′ ≡ l′)
-refused-leaves Passed done l done′ l′ n c e = let z : _≡_ {A = ℕ} 0 1 = cc in absurd (omega arith)
+refused-leaves Passed done l done′ l′ n c e = refused-not c n (sym e)
 refused-leaves (Failed k) done l done′ l′ n c e = (refl, refl)
 
 nothing-written : (d bs ns rs m : List ℕ) (c : Check) → reportsAnswer d bs ns (length rs) (length m) ≡ Refused c
@@ -64,7 +65,7 @@ nothing-written d bs ns rs m c e = refused-leaves (accountsCheck bs ns (length r
 
 answered : (v : Verdict) (s n : ℕ) → answerOf v (Report s) ≡ Report n → (v ≡ Passed) × (s ≡ n)
 answered Passed s n e = (refl, cc)
-answered (Failed k) s n e = let z : _≡_ {A = ℕ} 0 1 = cc in absurd (omega arith)
+answered (Failed k) s n e = refused-not k n e
 
 words-behind : (d bs ns rs m : List ℕ) (n : ℕ) → reportsAnswer d bs ns (length rs) (length m) ≡ Report n → drop n (reportsAfter d bs ns (length rs) m) ≡ drop n m
 unfolding reportsAnswer

@@ -19,7 +19,7 @@ use Rattle.model.specs.Locality.{Edit, LocalChange, Reordered}
 use Rattle.model.proofs.Length.{report-length}
 use Rattle.model.proofs.Outcome.{memory-is}
 use Rattle.model.proofs.Demand.{demand3}
-use Rattle.model.proofs.InTurn.{accounts-checked, answer-past, results-past, memory-past}
+use Rattle.model.proofs.ManyAccounts.{accounts-checked, answer-past, results-past, memory-past}
 use Rattle.corollaries.specs.AccountEdits.{edit-rows, edit-at, edit-other}
 use Rattle.corollaries.specs.OtherAccounts.{rows-pass, whole}
 

@@ -16,7 +16,7 @@ use Rattle.model.specs.ManyAccounts.{wordsBefore, batchOf, resultNumbers, row60
 use Rattle.model.specs.OtherAccounts.{pairAt, reportAt, freely, neededTo, Enough, editedBatches, editedLengths, SameAccount, OtherAccounts}
 use Rattle.model.proofs.Verdicts.{_then_, tried-pass}
 use Rattle.model.proofs.Accepted.{plain-back}
-use Rattle.model.proofs.InTurn.{AccountsRows, accounts-checked}
+use Rattle.model.proofs.ManyAccounts.{AccountsRows, accounts-checked}
 use Rattle.corollaries.specs.CallsInTurn.{wrote}
 use Rattle.corollaries.specs.AccountEdits.{edit-rows, edit-at, edit-other}
 use Rattle.corollaries.specs.InTurn.{pair-is, report-is}

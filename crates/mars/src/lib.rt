@@ -6,6 +6,7 @@ ghost use Rattle.model.specs.Answers.{packed};
 ghost use Rattle.model.specs.Bytes.{byteAnswer, bytesAfter};
 ghost use Rattle.model.specs.ManyAccounts.{reportsAnswer, resultsAfter, reportsAfter};
 ghost use Rattle.model.specs.TextReading.{textSays, textNumber, textValue, totalAfter};
+use answers::NUMBER_UNIT;
 use byte_report::byte_report;
 use model::TextSays;
 use text_reading::read_text;
@@ -59,7 +60,7 @@ pub extern "C" fn mars_read_text(
             *account = account_total;
             words::wide(totals.lines)
         }
-        TextSays::Refusal(number, place) => words::wide(number) * 4294967296 + words::wide(place),
+        TextSays::Refusal(number, place) => words::wide(number) * NUMBER_UNIT + words::wide(place),
         TextSays::Unreadable => 18446744069414584320,
     }
 }

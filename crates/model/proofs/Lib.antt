@@ -22,5 +22,5 @@ pub mod Together
 pub mod Verdicts
 pub mod Sizes
 pub mod Outcome
-pub mod InTurn
+pub mod ManyAccounts
 pub mod Places

@@ -23,28 +23,32 @@ use Rattle.model.proofs.Length.{report-length}
 pub outcome-passed : (v : Verdict) (n room : ℕ) → v ≡ Passed → n ≤ room → outcome v n room ≡ Report n
 outcome-passed v n room e h = rw (e, le-leb n room h)
 
-refused-not : {X : Type 0} (k : Check) (n : ℕ) → Refused k ≡ Report n → X
+-- what holds of n words written, where the rows pass and there is room, and of every refusal
+pub outcome-by : (v : Verdict) (n room : ℕ) (P : Answer → Type 0) → (v ≡ Passed → n ≤ room → P (Report n)) → ((c : Check) → P (Refused c)) → P (outcome v n room)
+outcome-by Passed n room P f g = by (leb n room) refl
+  where
+    by : (t : Bool) → leb n room ≡ t → P (cond t (Report n) (Refused (Check.Report TooShort n)))
+    by true q = f refl (leb-true n room q)
+    by false q = g (Check.Report TooShort n)
+outcome-by (Failed c) n room P f g = g c
+
+pub refused-not : {X : Type 0} (k : Check) (n : ℕ) → Refused k ≡ Report n → X
 refused-not k n e = let z : _≡_ {A = ℕ} 0 1 = cc in absurd (omega arith)
 
 -- and back: an answer that is no refusal has the length of what is written, and room for it
 pub outcome-report : (v : Verdict) (n room k : ℕ) → outcome v n room ≡ Report k → (v ≡ Passed) × (k ≡ n) × (n ≤ room)
-outcome-report Passed n room k e = by (leb n room) refl e
-  where
-    by : (t : Bool) → leb n room ≡ t → cond t (Report n) (Refused (Check.Report TooShort n)) ≡ Report k → (_≡_ {A = Verdict} Passed Passed) × (k ≡ n) × (n ≤ room)
-    by true q z = let s : n ≡ k = cc in (refl, omega (arith, s), leb-true n room q)
-    by false q z = refused-not (Check.Report TooShort n) k z
-outcome-report (Failed c) n room k e = refused-not c k e
+outcome-report v n room k =
+    outcome-by v n room (λ a. a ≡ Report k → (v ≡ Passed) × (k ≡ n) × (n ≤ room))
+    (λ e h q. let s : n ≡ k = cc in (e, omega (arith, s), h)) (λ c q. refused-not c k q)
 
 module _ (v : Verdict) (n : ℕ) (w m : List ℕ) where
   pub leaves-words : v ≡ Passed → n ≤ length m → written (outcome v n (length m)) w m ≡ w ++ drop n m
   leaves-words e h = ap (λ (a : Answer). written a w m) (outcome-passed v n (length m) e h)
 
   pub leaves-length : length w ≡ n → length (written (outcome v n (length m)) w m) ≡ length m
-  leaves-length e = by (outcome v n (length m)) (λ k q. outcome-report v n (length m) k q)
-    where
-      by : (a : Answer) → ((k : ℕ) → a ≡ Report k → (v ≡ Passed) × (k ≡ n) × (n ≤ length m)) → length (written a w m) ≡ length m
-      by (Report k) h = let z = h k refl in omega (arith, z .1, z .2, e, length-append w (drop k m), length-drop k m)
-      by (Refused c) h = refl
+  leaves-length e =
+      outcome-by v n (length m) (λ a. length (written a w m) ≡ length m)
+      (λ p h. omega (arith, e, h, length-append w (drop n m), length-drop n m)) (λ c. refl)
 
 -- a refusal leaves the memory as it was, whatever could have been written
 pub leaves-all : (a : Answer) (k : Check) (w m : List ℕ) → a ≡ Refused k → written a w m ≡ m
@@ -56,6 +60,10 @@ leaves-all a k w m e = ap (λ (x : Answer). written x w m) e
 pub needed-most : (d b : List ℕ) → needed d b ≤ longestReport
 unfolding wordsNeeded
 needed-most d b = omega (arith, count-small d (net b) (dvp b))
+
+pub answer-by : (d b : List ℕ) (room : ℕ) (P : Answer → Type 0) → (needed d b ≤ room → P (Report (needed d b))) → ((c : Check) → P (Refused c)) → P (answer d b room)
+unfolding answer
+answer-by d b room P f g = outcome-by (verdict d b) (needed d b) room P (λ e h. f h) g
 
 -- an answer that is a report: the account is accepted, and the memory has room for so many words
 pub answer-report : (d b : List ℕ) (room k : ℕ) → answer d b room ≡ Report k → Accepted d b × (k ≡ needed d b) × (needed d b ≤ room)

@@ -38,7 +38,7 @@ use Rattle.model.specs.Calls.{verdict, answer, answerOf, roomAnswer, nee
 use Rattle.model.specs.Bytes.{wordsOf, row1, row2, bytesCheck, byteAnswer}
 use Rattle.model.specs.ManyAccounts.{batchOf, row60, row61, accountsCheck, reportStart, reportsAnswer}
 use Rattle.model.proofs.Outcome.{needed-most}
-use Rattle.model.proofs.InTurn.{accounts-checked, start-most}
+use Rattle.model.proofs.ManyAccounts.{accounts-checked, start-most}
 use Rattle.model.proofs.Verdicts.{Each, _then_, tried-each}
 
 abbrev placeIn : Verdict → ℕ

@@ -56,6 +56,6 @@ abbrev pub valueOf : Answer → ℕ
 valueOf (Answer.Report n) = n
 valueOf (Refused k) = placeOf k
 
--- both in one number, as every C entry returns them
+-- both in one number, as a C entry returns an answer
 abbrev pub packed : Answer → ℕ
 packed a = statusOf a * 2 ^ 32 + valueOf a

@@ -9,7 +9,7 @@ use denote.Ref.{now}
 use Rattle.numbers.specs.Put.{put, rest-is, rest-part}
 use Rattle.model.specs.Calls.{answer, memoryAfter}
 use Rattle.model.specs.ManyAccounts.{wordsBefore, batchOf, resultNumbers, wordsIn, pairOf, reportStart, answerFor, memoryTo, resultsTo}
-use Rattle.model.proofs.InTurn.{AccountsRows, before-mono, before-none, before-more, start-fits, start-most, start-none, start-more, results-long, results-none, results-more, memory-long, memory-none, memory-more}
+use Rattle.model.proofs.ManyAccounts.{AccountsRows, before-mono, before-none, before-more, start-fits, start-most, start-none, start-more, results-long, results-none, results-more, memory-long, memory-none, memory-more}
 use Rattle.accounts.proofs.report_all.Statement.{statement}
 use Rattle.accounts.proofs.report_all.Tie as tie
 

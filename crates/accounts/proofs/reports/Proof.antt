@@ -7,7 +7,7 @@ use denote.Ref.{now}
 use Rattle.model.specs.declared.Answer.the-variants.{Report}
 use Rattle.model.specs.declared.Verdict.the-variants.{Passed}
 use Rattle.model.specs.ManyAccounts.{accountsCheck}
-use Rattle.model.proofs.InTurn.{accounts-checked, all-refused, answer-past, results-past, memory-past}
+use Rattle.model.proofs.ManyAccounts.{accounts-checked, all-refused, answer-past, results-past, memory-past}
 use Rattle.accounts.proofs.reports.Statement.{statement}
 use Rattle.accounts.proofs.reports.Tie as tie
 

@@ -6,7 +6,7 @@ use lib.ListN.{length, getD}
 use denote.Ref.{now}
 use borrow.Author.Needs.{needs}
 use Rattle.model.specs.ManyAccounts.{wordsBefore}
-use Rattle.model.proofs.InTurn.{before-none, before-more}
+use Rattle.model.proofs.ManyAccounts.{before-none, before-more}
 use Rattle.accounts_check.proofs.sum.Statement.{statement}
 use Rattle.accounts_check.proofs.sum.Tie as tie
 

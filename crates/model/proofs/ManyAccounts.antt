@@ -12,17 +12,16 @@ use lib.ListN.{length, take, drop, getD, length-append, length-drop}
 use lib.Seq.{length-take-le}
 use Rattle.numbers.specs.Put.{put, put-length}
 use Rattle.numbers.specs.Tests.{or-left, or-right}
-use Rattle.model.specs.declared.Answer.{Answer}
 use Rattle.model.specs.declared.Answer.the-variants.{Report, Refused}
 use Rattle.model.specs.declared.Check.{Check}
 use Rattle.model.specs.declared.Verdict.the-variants.{Passed, Failed}
 use Rattle.model.specs.Limits.{mostAccounts}
 use Rattle.model.specs.Report.{longestReport}
-use Rattle.model.specs.Calls.{verdict, answer, needed, memoryAfter}
+use Rattle.model.specs.Calls.{answer, memoryAfter}
 use Rattle.model.specs.ManyAccounts.{wordsBefore, batchOf, resultNumbers, row60, row61, accountsCheck, wordsIn, pairOf, reportStart, answerFor, resultsTo, memoryTo, reportsAnswer, resultsAfter, reportsAfter}
 use Rattle.model.proofs.Verdicts.{tried-passed}
 use Rattle.model.proofs.Accepted.{plain-clear}
-use Rattle.model.proofs.Outcome.{answer-report, needed-most, length-kept}
+use Rattle.model.proofs.Outcome.{answer-by, needed-most, length-kept}
 
 -- ---- rows 60 and 61
 
@@ -60,12 +59,9 @@ before-more ns i = rw add-one
 -- ---- one call
 
 -- it writes no more words than there are, and at most the longest report
-pub answer-fits : (d b : List ℕ) (room : ℕ) → (wordsIn (answer d b room) ≤ room) × (wordsIn (answer d b room) ≤ longestReport)
-answer-fits d b room = by (answer d b room) (λ k e. answer-report d b room k e)
-  where
-    by : (a : Answer) → ((k : ℕ) → a ≡ Report k → (verdict d b ≡ Passed) × (k ≡ needed d b) × (needed d b ≤ room)) → (wordsIn a ≤ room) × (wordsIn a ≤ longestReport)
-    by (Report k) h = let z = h k refl in (omega (arith, z .1, z .2), omega (arith, z .1, needed-most d b))
-    by (Refused c) h = (omega arith, omega arith)
+pub words-fit : (d b : List ℕ) (room : ℕ) → (wordsIn (answer d b room) ≤ room) × (wordsIn (answer d b room) ≤ longestReport)
+words-fit d b room =
+    answer-by d b room (λ a. (wordsIn a ≤ room) × (wordsIn a ≤ longestReport)) (λ h. (h, needed-most d b)) (λ c. (omega arith, omega arith))
 
 -- ---- the calls in turn
 
@@ -73,12 +69,12 @@ module _ (d : List ℕ) (b : ℕ → List ℕ) (room : ℕ) where
   pub start-fits : (i : ℕ) → reportStart d b room i ≤ room
   unfolding reportStart
   start-fits zero = omega arith
-  start-fits (suc i) = omega (arith, start-fits i, answer-fits d (b i) (room - reportStart d b room i) .0)
+  start-fits (suc i) = omega (arith, start-fits i, words-fit d (b i) (room - reportStart d b room i) .0)
 
   pub start-most : (i : ℕ) → reportStart d b room i ≤ longestReport * i
   unfolding reportStart
   start-most zero = omega arith
-  start-most (suc i) = omega (arith, start-most i, answer-fits d (b i) (room - reportStart d b room i) .1)
+  start-most (suc i) = omega (arith, start-most i, words-fit d (b i) (room - reportStart d b room i) .1)
 
   pub results-long : (rs : List ℕ) (i : ℕ) → resultNumbers * i ≤ length rs → length (resultsTo d b room rs i) ≡ length rs
   unfolding resultsTo
