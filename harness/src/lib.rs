@@ -4,6 +4,7 @@ pub mod cases;
 pub mod fields;
 pub mod files;
 pub mod many;
+pub mod places;
 pub mod plain;
 pub mod reading;
 pub mod reckoner;
@@ -11,6 +12,7 @@ pub mod requests;
 pub mod rng;
 pub mod samples;
 pub mod text_reading;
+pub mod timing;
 #[cfg(feature = "unit")]
 pub mod unit;
 pub mod vectors;

@@ -1,6 +1,7 @@
 //! The same work in straight 64-bit Rust: the baseline of the benchmark. Its answers are held to the reckoner's in the tests.
 
-const NETS: usize = 1024;
+/// Entries of a table of nets, one a position.
+pub const NETS: usize = 1024;
 
 fn kind(w: u32) -> u32 {
     w >> 29
@@ -139,12 +140,27 @@ fn check_batch(day: &Day, batch: &[u32], records: usize) -> Option<(u64, usize)>
     (0..records).find(|&r| amount(record(r)[3], record(r)[4], record(r)[5]) != 0 && !security(r)).map(|r| (26, r))
 }
 
+/// The position of a record, and what it adds to the position's net and DVP.
+fn added(record: &[u32]) -> (usize, i64, i64) {
+    let net = i64::from(payload(record[2])) - i64::from(payload(record[1]));
+    ((record[0] & 1023) as usize, net, amount(record[3], record[4], record[5]))
+}
+
 /// Step 1 over a batch that passed its checks: one pass into two tables of 1,024 entries.
 pub fn net(batch: &[u32], nets: &mut [i64; NETS], dvps: &mut [i64; NETS]) {
-    for w in batch[1..].chunks_exact(6) {
-        let k = (w[0] & 1023) as usize;
-        nets[k] += i64::from(payload(w[2])) - i64::from(payload(w[1]));
-        dvps[k] += amount(w[3], w[4], w[5]);
+    for record in batch[1..].chunks_exact(6) {
+        let (k, net, dvp) = added(record);
+        nets[k] += net;
+        dvps[k] += dvp;
+    }
+}
+
+/// The same into one table, net and DVP of a position beside each other.
+pub fn net_pairs(batch: &[u32], table: &mut [[i64; 2]; NETS]) {
+    for record in batch[1..].chunks_exact(6) {
+        let (k, net, dvp) = added(record);
+        table[k][0] += net;
+        table[k][1] += dvp;
     }
 }
 

@@ -1,6 +1,6 @@
 //! The benchmark's baseline against the reckoner: the same answers and memories.
-use harness::accounts::{account, damage, mixed};
-use harness::plain;
+use harness::accounts::{accepted, account, damage, mixed};
+use harness::plain::{self, NETS};
 use harness::reckoner::{call_bytes, to_bytes};
 use harness::rng::Rng;
 
@@ -21,5 +21,18 @@ fn baseline_agrees_with_the_reckoner() {
         };
         assert_eq!(plain::call(&day, &batch, &mut ours), expected, "case {i}");
         assert_eq!(ours, theirs, "case {i}");
+    }
+}
+
+#[test]
+fn one_table_has_what_two_have() {
+    let mut rng = Rng::new(8);
+    for i in 0..200 {
+        let a = accepted(&mut rng, mixed(i));
+        let (mut nets, mut dvps, mut pairs) = ([0; NETS], [0; NETS], [[0; 2]; NETS]);
+        plain::net(&a.batch, &mut nets, &mut dvps);
+        plain::net_pairs(&a.batch, &mut pairs);
+        assert!((0..NETS).all(|k| pairs[k] == [nets[k], dvps[k]]), "case {i}");
+        assert!(nets.iter().chain(&dvps).any(|&z| z != 0), "case {i}: nothing held");
     }
 }

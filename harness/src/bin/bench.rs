@@ -1,55 +1,43 @@
-//! The byte call against the same work in plain Rust: medians in one run, on the largest and on a typical account; all accounts of
-//! a broker in one call against as many byte calls; then netting alone. From the top folder: `rt staticlib mars`, `rt staticlib netting_times`; here `cargo run --release --features bench --bin bench`.
+//! The unit's calls timed in one run beside others that do the same work: the byte call and netting alone beside plain Rust, all
+//! accounts of a broker in one call beside as many byte calls. Fails where a ratio is above its limit.
+//! From the top folder: `rt staticlib mars`, `rt staticlib netting_times`; here `cargo run --release --features bench --bin bench`.
 use harness::accounts::{accepted, batch, Account, Size, LARGEST, TYPICAL};
+use harness::cases::LONGEST;
 use harness::many::joined;
-use harness::plain;
+use harness::places::Placed;
+use harness::plain::{self, NETS};
 use harness::reckoner::{reckon, to_bytes};
 use harness::rng::Rng;
+use harness::timing::{Call, Times};
 use harness::unit;
 use std::hint::black_box;
-use std::time::{Duration, Instant};
 
-const WARM_UP: Duration = Duration::from_millis(300);
-const SAMPLES: usize = 1001;
-const SAMPLE: Duration = Duration::from_micros(400);
-/// Nettings after the first in a call of the unit's repeated netting.
-const TIMES: u32 = 200;
+const ROUNDS: usize = 400;
+/// Nettings in a call of the unit's repeated netting, which checks the batch once.
+const NETTINGS: u32 = 201;
 
-/// Time of `calls` calls, in nanoseconds a call.
-fn time(calls: u32, mut call: impl FnMut()) -> f64 {
-    let start = Instant::now();
-    for _ in 0..calls {
-        call();
-    }
-    start.elapsed().as_nanos() as f64 / f64::from(calls)
+/// Two calls beside each other: how a round of them is timed, and the highest ratio of their medians that passes, if any.
+struct Figure {
+    name: String,
+    limit: Option<f64>,
+    round: Box<dyn FnMut(&mut Rng, &mut Times)>,
+    times: Times,
 }
 
-/// Warms up and says how many calls make a sample.
-fn calls(mut call: impl FnMut()) -> u32 {
-    let start = Instant::now();
-    let mut done = 0u32;
-    while start.elapsed() < WARM_UP {
-        call();
-        done += 1;
+impl Figure {
+    fn new(name: String, limit: Option<f64>, round: impl FnMut(&mut Rng, &mut Times) + 'static) -> Self {
+        Figure { name, limit, round: Box::new(round), times: Times::default() }
     }
-    let one = start.elapsed().as_nanos() / u128::from(done);
-    (SAMPLE.as_nanos() / one.max(1)).max(1) as u32
-}
 
-fn median(times: &mut [f64]) -> f64 {
-    times.sort_by(f64::total_cmp);
-    times[times.len() / 2]
-}
-
-/// Medians of the two, their samples taken in turns.
-fn medians(mut ours: impl FnMut(), mut theirs: impl FnMut()) -> (f64, f64) {
-    let (our_calls, their_calls) = (calls(&mut ours), calls(&mut theirs));
-    let (mut our_times, mut their_times) = (Vec::new(), Vec::new());
-    for _ in 0..SAMPLES {
-        our_times.push(time(our_calls, &mut ours));
-        their_times.push(time(their_calls, &mut theirs));
+    /// Prints the figure's line; false where the ratio is above the limit.
+    fn passes(&self) -> bool {
+        let c = self.times.compared();
+        let half = format!("{:.3} to {:.3}", c.half[0], c.half[1]);
+        let limit = self.limit.map_or(String::new(), |l| l.to_string());
+        let [a, b] = c.medians;
+        println!("{:<52}{a:>10.0}{b:>10.0}{:>8.3}{:>8.3}{half:>17}{limit:>7}", self.name, c.ratio, c.lower);
+        self.limit.is_none_or(|l| c.ratio <= l)
     }
-    (median(&mut our_times), median(&mut their_times))
 }
 
 /// The account with the most lines among some accepted ones of this size.
@@ -58,100 +46,126 @@ fn account(size: Size) -> Account {
     (0..40).map(|_| accepted(&mut rng, size)).max_by_key(|a| reckon(&a.day, &a.batch).map_or(0, |r| r.lines.len())).unwrap()
 }
 
-fn run(name: &str, size: Size) {
+/// The byte call beside plain Rust.
+fn byte_call(name: &str, size: Size) -> Figure {
     let a = account(size);
     let (day, batch) = (to_bytes(&a.day), to_bytes(&a.batch));
-    let (mut ours, mut theirs) = (vec![0u8; 4460], vec![0u8; 4460]);
+    let (mut ours, mut theirs) = ([0; 4 * LONGEST], [0; 4 * LONGEST]);
     let words = unit::call(&day, &batch, &mut ours).expect("accepted");
     assert_eq!(plain::call(&day, &batch, &mut theirs), words as u64);
     assert!(ours == theirs, "the two memories differ");
-    let unit_call = || {
-        black_box(unit::call(black_box(&day), black_box(&batch), black_box(&mut ours))).ok();
-    };
-    let plain_call = || {
-        black_box(plain::call(black_box(&day), black_box(&batch), black_box(&mut theirs)));
-    };
-    let (u, p) = medians(unit_call, plain_call);
-    println!(
-        "{name}: {} classes, {} series, {} records, {} lines: unit {u:.0} ns, plain Rust {p:.0} ns, ratio {:.2}",
-        size.classes,
-        size.series,
-        size.records,
-        (words - 13) / 19,
-        u / p
-    );
+    Figure::new(format!("{name} account, byte call : plain Rust"), None, move |rng, times| {
+        let (day, batch) = (Placed::new(&day, rng), Placed::new(&batch, rng));
+        let (mut ours, mut theirs) = (Placed::new(&ours, rng), Placed::new(&theirs, rng));
+        let mut unit_call = || {
+            black_box(unit::call(black_box(&day), black_box(&batch), black_box(&mut ours))).ok();
+        };
+        let mut plain_call = || {
+            black_box(plain::call(black_box(&day), black_box(&batch), black_box(&mut theirs)));
+        };
+        times.round(rng, [Call(1, &mut unit_call), Call(1, &mut plain_call)]);
+    })
 }
 
-/// 64 accounts of one day file in one call, beside a byte call for each: the ratio.
-fn run_accounts(name: &str, size: Size) -> f64 {
+/// 64 accounts of one day file in one call, beside a byte call for each.
+fn all_accounts(name: &str, size: Size, limit: Option<f64>) -> Figure {
     let a = account(size);
     let mut rng = Rng::new(64);
     let fresh = std::iter::from_fn(|| Some(batch(&mut rng, &a.day, size.records as usize)));
     let batches: Vec<Vec<u32>> = fresh.filter(|b| reckon(&a.day, b).is_ok()).take(64).collect();
     let (day, files): (Vec<u8>, Vec<Vec<u8>>) = (to_bytes(&a.day), batches.iter().map(|b| to_bytes(b)).collect());
     let (words, lengths) = joined(&batches);
-    let (mut results, mut memory) = ([0u32; 128], vec![0u32; 64 * 1115]);
-    let mut report = vec![0u8; 4460];
+    let (mut results, mut memory, mut report) = ([0; 128], vec![0; 64 * LONGEST], [0; 4 * LONGEST]);
     let written = unit::call_all(&a.day, &words, &lengths, &mut results, &mut memory).expect("accepted");
     let singly: usize = files.iter().map(|b| unit::call(&day, b, &mut report).expect("accepted")).sum();
     assert_eq!(written, singly);
-    let one_call = || {
-        black_box(unit::call_all(black_box(&a.day), black_box(&words), &lengths, &mut results, black_box(&mut memory))).ok();
-    };
-    let byte_calls = || {
-        for b in &files {
-            black_box(unit::call(black_box(&day), black_box(b), black_box(&mut report))).ok();
-        }
-    };
-    let (one, many) = medians(one_call, byte_calls);
-    let ratio = one / many;
-    println!(
-        "64 accounts, {name}: {} records each, {written} words of reports: one call {one:.0} ns, 64 byte calls {many:.0} ns, ratio {ratio:.2}",
-        size.records,
-    );
-    ratio
+    Figure::new(format!("64 {name} accounts, one call : 64 byte calls"), limit, move |rng, times| {
+        let (day_words, words, mut memory) = (Placed::new(&a.day, rng), Placed::new(&words, rng), Placed::new(&memory, rng));
+        let (day, mut report) = (Placed::new(&day, rng), Placed::new(&report, rng));
+        let files: Vec<Placed<u8>> = files.iter().map(|f| Placed::new(f, rng)).collect();
+        let mut one_call = || {
+            let memory = black_box(&mut memory);
+            black_box(unit::call_all(black_box(&day_words), black_box(&words), &lengths, &mut results, memory)).ok();
+        };
+        let mut byte_calls = || {
+            for b in &files {
+                black_box(unit::call(black_box(&day), black_box(b), black_box(&mut report))).ok();
+            }
+        };
+        times.round(rng, [Call(1, &mut one_call), Call(1, &mut byte_calls)]);
+    })
 }
 
-type Tables = ([i64; 1024], [i64; 1024]);
+/// What netting is timed beside: a call on the batch, with memory of its own placed anew.
+type Other = fn(&mut Rng) -> Box<dyn FnMut(&[u32])>;
 
-/// Step 1 alone on the largest account's batch, `TIMES` + 1 nettings a call.
-fn run_netting() {
+/// Plain Rust, net and DVP in one table.
+fn one_table(rng: &mut Rng) -> Box<dyn FnMut(&[u32])> {
+    let mut table = Placed::new(&[[0; 2]; NETS], rng);
+    Box::new(move |batch| {
+        let table = black_box(table.first_chunk_mut().unwrap());
+        table.as_flattened_mut().fill(0);
+        plain::net_pairs(batch, table);
+    })
+}
+
+/// Plain Rust, nets and DVPs in two tables, as the unit has them.
+fn two_tables(rng: &mut Rng) -> Box<dyn FnMut(&[u32])> {
+    let [mut nets, mut dvps] = [(); 2].map(|_| Placed::new(&[0; NETS], rng));
+    Box::new(move |batch| {
+        let [nets, dvps] = black_box([&mut nets, &mut dvps]).map(|table| table.first_chunk_mut().unwrap());
+        nets.fill(0);
+        dvps.fill(0);
+        plain::net(batch, nets, dvps);
+    })
+}
+
+/// No netting: a table of nets copied once.
+fn a_copy(rng: &mut Rng) -> Box<dyn FnMut(&[u32])> {
+    let [from, mut to] = [(); 2].map(|_| Placed::new(&[0i64; NETS], rng));
+    Box::new(move |_| black_box(&mut to).copy_from_slice(black_box(&from)))
+}
+
+/// Step 1 alone on the largest account's batch, both tables cleared before each netting; `pieces` of it beside one other call.
+fn netting(name: &str, limit: f64, pieces: u32, other: Other) -> Figure {
     let a = account(LARGEST);
-    let mut ours: Tables = ([7; 1024], [7; 1024]);
-    let mut theirs = ours;
-    let unit_call = |tables: &mut Tables| {
-        let (nets, dvps) = black_box(tables);
-        assert!(unit::net_times(black_box(&a.day), black_box(&a.batch), nets, dvps, TIMES), "accepted");
-    };
-    let plain_call = |tables: &mut Tables| {
-        for _ in 0..=TIMES {
-            let (nets, dvps) = black_box(&mut *tables);
-            nets.fill(0);
-            dvps.fill(0);
-            plain::net(black_box(&a.batch), nets, dvps);
-        }
-    };
-    unit_call(&mut ours);
-    plain_call(&mut theirs);
+    let (mut ours, mut theirs) = ([[7; NETS]; 2], [[0; NETS]; 2]);
+    let ([our_nets, our_dvps], [nets, dvps]) = (&mut ours, &mut theirs);
+    assert!(unit::net_times(&a.day, &a.batch, our_nets, our_dvps, NETTINGS - 1), "accepted");
+    plain::net(&a.batch, nets, dvps);
     assert!(ours == theirs, "the tables differ");
-    let (u, p) = medians(|| unit_call(&mut ours), || plain_call(&mut theirs));
-    let each = f64::from(TIMES + 1);
-    println!(
-        "netting alone: {} records, both tables cleared before each of {each} nettings a call: \
-         unit {:.0} ns, plain Rust {:.0} ns a netting, ratio {:.2}",
-        (a.batch.len() - 1) / 6,
-        u / each,
-        p / each,
-        u / p
-    );
+    Figure::new(name.to_string(), Some(limit), move |rng, times| {
+        let (day, batch) = (Placed::new(&a.day, rng), Placed::new(&a.batch, rng));
+        let [mut nets, mut dvps] = [(); 2].map(|_| Placed::new(&[0; NETS], rng));
+        let mut other = other(rng);
+        let mut unit_call = || {
+            let [nets, dvps] = black_box([&mut nets, &mut dvps]);
+            black_box(unit::net_times(black_box(&day), black_box(&batch), nets, dvps, NETTINGS - 1));
+        };
+        let mut other_calls = || (0..NETTINGS).for_each(|_| other(black_box(&batch)));
+        times.round(rng, [Call(pieces * NETTINGS, &mut unit_call), Call(NETTINGS, &mut other_calls)]);
+    })
 }
 
 fn main() {
-    println!("medians of {SAMPLES} samples each, taken in turns; the report memory is not cleared between calls");
-    run("largest", LARGEST);
-    run("typical", TYPICAL);
-    let typical = run_accounts("typical", TYPICAL);
-    run_accounts("largest", LARGEST);
-    run_netting();
-    assert!(typical < 0.8, "one call for 64 accounts takes more than 0.8 of 64 byte calls");
+    let mut figures = [
+        byte_call("largest", LARGEST),
+        byte_call("typical", TYPICAL),
+        all_accounts("typical", TYPICAL, Some(0.8)),
+        all_accounts("largest", LARGEST, None),
+        netting("netting of 256 records : plain Rust, one table", 10.0, 1, one_table),
+        netting("netting of 256 records : plain Rust, two tables", 10.0, 1, two_tables),
+        netting("netting, a record : a copy of its table", 0.5, LARGEST.records as u32, a_copy),
+    ];
+    let mut rng = Rng::new(5);
+    for _ in 0..ROUNDS {
+        for f in &mut figures {
+            (f.round)(&mut rng, &mut f.times);
+        }
+    }
+    println!("A : B, in turns over {ROUNDS} rounds: medians in nanoseconds, their ratio, that of the lower quartiles;");
+    println!("between what half of the turns' own ratios lie; the limit of the ratio");
+    println!("{:<52}{:>10}{:>10}{:>8}{:>8}{:>17}{:>7}", "", "A", "B", "ratio", "lower", "half of turns", "limit");
+    let above: Vec<&str> = figures.iter().filter(|f| !f.passes()).map(|f| f.name.as_str()).collect();
+    assert!(above.is_empty(), "above the limit: {above:?}");
 }
