@@ -1,15 +1,14 @@
 //! Two calls timed beside each other: in short turns, so that a slow moment of the machine meets both, and in many rounds, each at
-//! another place.
-use crate::places::anywhere;
-use crate::rng::Rng;
+//! other places.
+use crate::places::Places;
 use std::time::{Duration, Instant};
 
 /// How long a call warms up in a round.
-const WARM_UP: Duration = Duration::from_micros(200);
+const WARM_UP: Duration = Duration::from_millis(1);
 /// A turn's length, where one call is not longer.
 const TURN: Duration = Duration::from_micros(25);
 /// A round's length, where two turns of each are not longer.
-const ROUND: Duration = Duration::from_micros(1500);
+const ROUND: Duration = Duration::from_millis(6);
 
 /// A call, and how many pieces of the work that is timed it does.
 pub struct Call<'a>(pub u32, pub &'a mut dyn FnMut());
@@ -44,12 +43,11 @@ pub struct Times(pub [Vec<f64>; 2]);
 #[derive(Debug, PartialEq)]
 pub struct Comparison {
     pub medians: [f64; 2],
-    /// The ratio of the medians.
-    pub ratio: f64,
-    /// The ratio of the lower quartiles, which slow moments move least.
+    /// The quartiles of the turns' own ratios: the ratio and its spread. A turn's two times are of one moment; of two medians one may be of
+    /// a slow second and the other not.
+    pub ratios: [f64; 3],
+    /// The ratio of the lower quartiles, for which three quarters of the turns may be slow.
     pub lower: f64,
-    /// The spread: half of the turns' own ratios lie between these two.
-    pub half: [f64; 2],
 }
 
 /// The times in k quarters of the turns are below this one.
@@ -61,8 +59,9 @@ fn quartile(times: &[f64], k: usize) -> f64 {
 
 impl Times {
     /// A round of turns, as many with the one first as with the other.
-    pub fn round(&mut self, rng: &mut Rng, mut both: [Call; 2]) {
-        anywhere(rng, &mut || {
+    pub fn round(&mut self, places: &mut Places, both: [Call; 2]) {
+        let mut both = both.map(|call| Call(call.0, places.code(call.1)));
+        places.stack(&mut || {
             let calls = both.each_mut().map(Call::warm_up);
             let mut order = [0, 1];
             let start = Instant::now();
@@ -78,12 +77,10 @@ impl Times {
     pub fn compared(&self) -> Comparison {
         let [ours, theirs] = &self.0;
         let ratios: Vec<f64> = ours.iter().zip(theirs).map(|(a, b)| a / b).collect();
-        let medians = [quartile(ours, 2), quartile(theirs, 2)];
         Comparison {
-            medians,
-            ratio: medians[0] / medians[1],
+            medians: [quartile(ours, 2), quartile(theirs, 2)],
+            ratios: [1, 2, 3].map(|k| quartile(&ratios, k)),
             lower: quartile(ours, 1) / quartile(theirs, 1),
-            half: [quartile(&ratios, 1), quartile(&ratios, 3)],
         }
     }
 }

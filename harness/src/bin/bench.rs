@@ -4,7 +4,7 @@
 use harness::accounts::{accepted, batch, Account, Size, LARGEST, TYPICAL};
 use harness::cases::LONGEST;
 use harness::many::joined;
-use harness::places::Placed;
+use harness::places::{Placed, Places};
 use harness::plain::{self, NETS};
 use harness::reckoner::{reckon, to_bytes};
 use harness::rng::Rng;
@@ -12,31 +12,32 @@ use harness::timing::{Call, Times};
 use harness::unit;
 use std::hint::black_box;
 
-const ROUNDS: usize = 400;
+const ROUNDS: usize = 100;
 /// Nettings in a call of the unit's repeated netting, which checks the batch once.
 const NETTINGS: u32 = 201;
 
-/// Two calls beside each other: how a round of them is timed, and the highest ratio of their medians that passes, if any.
+/// Two calls beside each other: how a round of them is timed, and the highest ratio that passes, if any.
 struct Figure {
     name: String,
     limit: Option<f64>,
-    round: Box<dyn FnMut(&mut Rng, &mut Times)>,
+    round: Box<dyn FnMut(&mut Places, &mut Times)>,
     times: Times,
 }
 
 impl Figure {
-    fn new(name: String, limit: Option<f64>, round: impl FnMut(&mut Rng, &mut Times) + 'static) -> Self {
+    fn new(name: String, limit: Option<f64>, round: impl FnMut(&mut Places, &mut Times) + 'static) -> Self {
         Figure { name, limit, round: Box::new(round), times: Times::default() }
     }
 
     /// Prints the figure's line; false where the ratio is above the limit.
     fn passes(&self) -> bool {
         let c = self.times.compared();
-        let half = format!("{:.3} to {:.3}", c.half[0], c.half[1]);
+        let [a, b] = c.medians.map(|time| format!("{time:.*}", usize::from(time < 100.0)));
+        let [from, ratio, to] = c.ratios;
+        let half = format!("{from:.3} to {to:.3}");
         let limit = self.limit.map_or(String::new(), |l| l.to_string());
-        let [a, b] = c.medians;
-        println!("{:<52}{a:>10.0}{b:>10.0}{:>8.3}{:>8.3}{half:>17}{limit:>7}", self.name, c.ratio, c.lower);
-        self.limit.is_none_or(|l| c.ratio <= l)
+        println!("{:<56}{a:>8}{b:>9}{:>7.3}{:>7.3}{half:>16}{limit:>6}", self.name, ratio, c.lower);
+        self.limit.is_none_or(|l| ratio <= l)
     }
 }
 
@@ -54,16 +55,18 @@ fn byte_call(name: &str, size: Size) -> Figure {
     let words = unit::call(&day, &batch, &mut ours).expect("accepted");
     assert_eq!(plain::call(&day, &batch, &mut theirs), words as u64);
     assert!(ours == theirs, "the two memories differ");
-    Figure::new(format!("{name} account, byte call : plain Rust"), None, move |rng, times| {
-        let (day, batch) = (Placed::new(&day, rng), Placed::new(&batch, rng));
-        let (mut ours, mut theirs) = (Placed::new(&ours, rng), Placed::new(&theirs, rng));
+    let lines = reckon(&a.day, &a.batch).map_or(0, |r| r.lines.len());
+    let name = format!("byte call, {name} ({} records, {lines} lines) : plain Rust", size.records);
+    Figure::new(name, None, move |places, times| {
+        let (day, batch) = (places.memory(&day), places.memory(&batch));
+        let (mut ours, mut theirs) = (places.memory(&ours), places.memory(&theirs));
         let mut unit_call = || {
             black_box(unit::call(black_box(&day), black_box(&batch), black_box(&mut ours))).ok();
         };
         let mut plain_call = || {
             black_box(plain::call(black_box(&day), black_box(&batch), black_box(&mut theirs)));
         };
-        times.round(rng, [Call(1, &mut unit_call), Call(1, &mut plain_call)]);
+        times.round(places, [Call(1, &mut unit_call), Call(1, &mut plain_call)]);
     })
 }
 
@@ -79,10 +82,10 @@ fn all_accounts(name: &str, size: Size, limit: Option<f64>) -> Figure {
     let written = unit::call_all(&a.day, &words, &lengths, &mut results, &mut memory).expect("accepted");
     let singly: usize = files.iter().map(|b| unit::call(&day, b, &mut report).expect("accepted")).sum();
     assert_eq!(written, singly);
-    Figure::new(format!("64 {name} accounts, one call : 64 byte calls"), limit, move |rng, times| {
-        let (day_words, words, mut memory) = (Placed::new(&a.day, rng), Placed::new(&words, rng), Placed::new(&memory, rng));
-        let (day, mut report) = (Placed::new(&day, rng), Placed::new(&report, rng));
-        let files: Vec<Placed<u8>> = files.iter().map(|f| Placed::new(f, rng)).collect();
+    Figure::new(format!("64 {name} accounts, one call : 64 byte calls"), limit, move |places, times| {
+        let (day_words, words, mut memory) = (places.memory(&a.day), places.memory(&words), places.memory(&memory));
+        let (day, mut report) = (places.memory(&day), places.memory(&report));
+        let files: Vec<Placed<u8>> = files.iter().map(|f| places.memory(f)).collect();
         let mut one_call = || {
             let memory = black_box(&mut memory);
             black_box(unit::call_all(black_box(&day_words), black_box(&words), &lengths, &mut results, memory)).ok();
@@ -92,80 +95,79 @@ fn all_accounts(name: &str, size: Size, limit: Option<f64>) -> Figure {
                 black_box(unit::call(black_box(&day), black_box(b), black_box(&mut report))).ok();
             }
         };
-        times.round(rng, [Call(1, &mut one_call), Call(1, &mut byte_calls)]);
+        times.round(places, [Call(1, &mut one_call), Call(1, &mut byte_calls)]);
     })
 }
 
-/// What netting is timed beside: a call on the batch, with memory of its own placed anew.
-type Other = fn(&mut Rng) -> Box<dyn FnMut(&[u32])>;
-
 /// Plain Rust, net and DVP in one table.
-fn one_table(rng: &mut Rng) -> Box<dyn FnMut(&[u32])> {
-    let mut table = Placed::new(&[[0; 2]; NETS], rng);
-    Box::new(move |batch| {
+fn one_table(places: &mut Places) -> impl FnMut(&[u32]) {
+    let mut table = places.memory(&[[0; 2]; NETS]);
+    move |batch| {
         let table = black_box(table.first_chunk_mut().unwrap());
         table.as_flattened_mut().fill(0);
         plain::net_pairs(batch, table);
-    })
+    }
 }
 
 /// Plain Rust, nets and DVPs in two tables, as the unit has them.
-fn two_tables(rng: &mut Rng) -> Box<dyn FnMut(&[u32])> {
-    let [mut nets, mut dvps] = [(); 2].map(|_| Placed::new(&[0; NETS], rng));
-    Box::new(move |batch| {
+fn two_tables(places: &mut Places) -> impl FnMut(&[u32]) {
+    let [mut nets, mut dvps] = [(); 2].map(|_| places.memory(&[0; NETS]));
+    move |batch| {
         let [nets, dvps] = black_box([&mut nets, &mut dvps]).map(|table| table.first_chunk_mut().unwrap());
         nets.fill(0);
         dvps.fill(0);
         plain::net(batch, nets, dvps);
-    })
+    }
 }
 
 /// No netting: a table of nets copied once.
-fn a_copy(rng: &mut Rng) -> Box<dyn FnMut(&[u32])> {
-    let [from, mut to] = [(); 2].map(|_| Placed::new(&[0i64; NETS], rng));
-    Box::new(move |_| black_box(&mut to).copy_from_slice(black_box(&from)))
+fn a_copy(places: &mut Places) -> impl FnMut(&[u32]) {
+    let [from, mut to] = [(); 2].map(|_| places.memory(&[0i64; NETS]));
+    move |_| black_box(&mut to).copy_from_slice(black_box(&from))
 }
 
-/// Step 1 alone on the largest account's batch, both tables cleared before each netting; `pieces` of it beside one other call.
-fn netting(name: &str, limit: f64, pieces: u32, other: Other) -> Figure {
+/// Step 1 alone on the largest account's batch, both tables cleared before each netting. One of its `pieces` is timed beside one call
+/// of `other` on that batch.
+fn netting<F: FnMut(&[u32])>(name: &str, limit: f64, pieces: u32, other: impl Fn(&mut Places) -> F + 'static) -> Figure {
     let a = account(LARGEST);
     let (mut ours, mut theirs) = ([[7; NETS]; 2], [[0; NETS]; 2]);
     let ([our_nets, our_dvps], [nets, dvps]) = (&mut ours, &mut theirs);
     assert!(unit::net_times(&a.day, &a.batch, our_nets, our_dvps, NETTINGS - 1), "accepted");
     plain::net(&a.batch, nets, dvps);
     assert!(ours == theirs, "the tables differ");
-    Figure::new(name.to_string(), Some(limit), move |rng, times| {
-        let (day, batch) = (Placed::new(&a.day, rng), Placed::new(&a.batch, rng));
-        let [mut nets, mut dvps] = [(); 2].map(|_| Placed::new(&[0; NETS], rng));
-        let mut other = other(rng);
+    Figure::new(name.to_string(), Some(limit), move |places, times| {
+        let (day, batch) = (places.memory(&a.day), places.memory(&a.batch));
+        let [mut nets, mut dvps] = [(); 2].map(|_| places.memory(&[0; NETS]));
+        let mut other = other(places);
         let mut unit_call = || {
             let [nets, dvps] = black_box([&mut nets, &mut dvps]);
             black_box(unit::net_times(black_box(&day), black_box(&batch), nets, dvps, NETTINGS - 1));
         };
         let mut other_calls = || (0..NETTINGS).for_each(|_| other(black_box(&batch)));
-        times.round(rng, [Call(pieces * NETTINGS, &mut unit_call), Call(NETTINGS, &mut other_calls)]);
+        times.round(places, [Call(pieces * NETTINGS, &mut unit_call), Call(NETTINGS, &mut other_calls)]);
     })
 }
 
 fn main() {
+    let records = LARGEST.records;
     let mut figures = [
         byte_call("largest", LARGEST),
         byte_call("typical", TYPICAL),
         all_accounts("typical", TYPICAL, Some(0.8)),
         all_accounts("largest", LARGEST, None),
-        netting("netting of 256 records : plain Rust, one table", 10.0, 1, one_table),
-        netting("netting of 256 records : plain Rust, two tables", 10.0, 1, two_tables),
-        netting("netting, a record : a copy of its table", 0.5, LARGEST.records as u32, a_copy),
+        netting(&format!("netting of {records} records : plain Rust, one table"), 10.0, 1, one_table),
+        netting(&format!("netting of {records} records : plain Rust, two tables"), 10.0, 1, two_tables),
+        netting("netting, a record : a copy of its table", 0.5, records as u32, a_copy),
     ];
-    let mut rng = Rng::new(5);
+    let mut places = Places::new(5);
     for _ in 0..ROUNDS {
         for f in &mut figures {
-            (f.round)(&mut rng, &mut f.times);
+            (f.round)(&mut places, &mut f.times);
         }
     }
-    println!("A : B, in turns over {ROUNDS} rounds: medians in nanoseconds, their ratio, that of the lower quartiles;");
-    println!("between what half of the turns' own ratios lie; the limit of the ratio");
-    println!("{:<52}{:>10}{:>10}{:>8}{:>8}{:>17}{:>7}", "", "A", "B", "ratio", "lower", "half of turns", "limit");
+    println!("A : B in turns, {ROUNDS} rounds: medians in nanoseconds; the median of the turns' ratios; the ratio of the lower quartiles;");
+    println!("between what half of the turns' ratios lie; the highest median of them that passes");
+    println!("{:<56}{:>8}{:>9}{:>7}{:>7}{:>16}{:>6}", "", "A", "B", "ratio", "lower", "half of turns", "limit");
     let above: Vec<&str> = figures.iter().filter(|f| !f.passes()).map(|f| f.name.as_str()).collect();
     assert!(above.is_empty(), "above the limit: {above:?}");
 }
