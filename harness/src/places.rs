@@ -47,8 +47,8 @@ extern "C" {
     fn mmap(address: *mut u8, length: usize, protection: i32, flags: i32, file: i32, offset: i64) -> *mut u8;
 }
 
-/// A copy of the program, `shift` bytes into memory that may be read, written and run: where it starts. Its code finds its functions and
-/// constants by their distance, and what pointers it has into the program point into the copy.
+/// A copy of the program, `shift` bytes into memory that may be read, written and run and is never given back: where it starts. Its code
+/// finds its functions and constants by their distance, and what pointers it has into the program point into the copy.
 fn copied(image: &Range<usize>, shift: usize) -> usize {
     const READ_WRITE_RUN: i32 = 7;
     const PRIVATE_ANONYMOUS: i32 = 0x22;
