@@ -4,7 +4,7 @@ use crate::rng::Rng;
 use std::hint::black_box;
 use std::ops::{Deref, DerefMut, Range};
 
-/// Bytes from one place to the next; two places are apart by a multiple.
+/// Bytes from one place to the next.
 const STEP: usize = 16;
 /// Bytes over which memory is placed, and code.
 const MEMORY: usize = 1 << 16;
@@ -14,6 +14,7 @@ const FRAMES: u64 = 32;
 /// Copies of the code.
 const COPIES: usize = 64;
 
+/// What draws them.
 pub struct Places {
     rng: Rng,
     image: Range<usize>,
@@ -89,6 +90,7 @@ impl Places {
     }
 
     pub fn memory<T: Copy + Default>(&mut self, content: &[T]) -> Placed<T> {
+        const { assert!(STEP % size_of::<T>() == 0) };
         let start = self.rng.below((MEMORY / STEP) as u64) as usize * (STEP / size_of::<T>());
         let mut memory = vec![T::default(); start + content.len()];
         memory[start..].copy_from_slice(content);

@@ -50,9 +50,9 @@ pub struct Comparison {
     pub lower: f64,
 }
 
-/// The times in k quarters of the turns are below this one.
-fn quartile(times: &[f64], k: usize) -> f64 {
-    let mut sorted = times.to_vec();
+/// The k-th quartile: k quarters of the numbers are not above it.
+fn quartile(numbers: &[f64], k: usize) -> f64 {
+    let mut sorted = numbers.to_vec();
     sorted.sort_by(f64::total_cmp);
     sorted[sorted.len() * k / 4]
 }

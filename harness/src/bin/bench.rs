@@ -41,25 +41,26 @@ impl Figure {
     }
 }
 
+fn lines(a: &Account) -> usize {
+    reckon(&a.day, &a.batch).expect("accepted").lines.len()
+}
+
 /// The account with the most lines among some accepted ones of this size.
 fn account(size: Size) -> Account {
     let mut rng = Rng::new(2021);
-    (0..40).map(|_| accepted(&mut rng, size)).max_by_key(|a| reckon(&a.day, &a.batch).map_or(0, |r| r.lines.len())).unwrap()
+    (0..40).map(|_| accepted(&mut rng, size)).max_by_key(lines).unwrap()
 }
 
 /// The byte call beside plain Rust.
 fn byte_call(name: &str, size: Size) -> Figure {
     let a = account(size);
     let (day, batch) = (to_bytes(&a.day), to_bytes(&a.batch));
-    let (mut ours, mut theirs) = ([0; 4 * LONGEST], [0; 4 * LONGEST]);
-    let words = unit::call(&day, &batch, &mut ours).expect("accepted");
-    assert_eq!(plain::call(&day, &batch, &mut theirs), words as u64);
-    assert!(ours == theirs, "the two memories differ");
-    let lines = reckon(&a.day, &a.batch).map_or(0, |r| r.lines.len());
-    let name = format!("byte call, {name} ({} records, {lines} lines) : plain Rust", size.records);
+    let mut report = [0; 4 * LONGEST];
+    unit::call(&day, &batch, &mut report).expect("accepted");
+    let name = format!("byte call, {name} ({} records, {} lines) : plain Rust", size.records, lines(&a));
     Figure::new(name, None, move |places, times| {
         let (day, batch) = (places.memory(&day), places.memory(&batch));
-        let (mut ours, mut theirs) = (places.memory(&ours), places.memory(&theirs));
+        let [mut ours, mut theirs] = [(); 2].map(|_| places.memory(&[0; 4 * LONGEST]));
         let mut unit_call = || {
             black_box(unit::call(black_box(&day), black_box(&batch), black_box(&mut ours))).ok();
         };
@@ -67,6 +68,7 @@ fn byte_call(name: &str, size: Size) -> Figure {
             black_box(plain::call(black_box(&day), black_box(&batch), black_box(&mut theirs)));
         };
         times.round(places, [Call(1, &mut unit_call), Call(1, &mut plain_call)]);
+        assert!(*ours == report && *theirs == report, "a report differs");
     })
 }
 
@@ -78,24 +80,26 @@ fn all_accounts(name: &str, size: Size, limit: Option<f64>) -> Figure {
     let batches: Vec<Vec<u32>> = fresh.filter(|b| reckon(&a.day, b).is_ok()).take(64).collect();
     let (day, files): (Vec<u8>, Vec<Vec<u8>>) = (to_bytes(&a.day), batches.iter().map(|b| to_bytes(b)).collect());
     let (words, lengths) = joined(&batches);
-    let (mut results, mut memory, mut report) = ([0; 128], vec![0; 64 * LONGEST], [0; 4 * LONGEST]);
-    let written = unit::call_all(&a.day, &words, &lengths, &mut results, &mut memory).expect("accepted");
+    let (mut results, mut reports, mut report) = ([0; 128], vec![0; 64 * LONGEST], [0; 4 * LONGEST]);
+    let written = unit::call_all(&a.day, &words, &lengths, &mut results, &mut reports).expect("accepted");
     let singly: usize = files.iter().map(|b| unit::call(&day, b, &mut report).expect("accepted")).sum();
     assert_eq!(written, singly);
     Figure::new(format!("64 {name} accounts, one call : 64 byte calls"), limit, move |places, times| {
-        let (day_words, words, mut memory) = (places.memory(&a.day), places.memory(&words), places.memory(&memory));
-        let (day, mut report) = (places.memory(&day), places.memory(&report));
+        let [day_words, words, lengths] = [&a.day, &words, &lengths].map(|content| places.memory(content));
+        let (mut our_results, mut our_reports) = (places.memory(&[0; 128]), places.memory(&[0; 64 * LONGEST]));
+        let (day, mut last_report) = (places.memory(&day), places.memory(&[0; 4 * LONGEST]));
         let files: Vec<Placed<u8>> = files.iter().map(|f| places.memory(f)).collect();
         let mut one_call = || {
-            let memory = black_box(&mut memory);
-            black_box(unit::call_all(black_box(&day_words), black_box(&words), &lengths, &mut results, memory)).ok();
+            let (results, reports) = black_box((&mut our_results, &mut our_reports));
+            black_box(unit::call_all(black_box(&day_words), black_box(&words), black_box(&lengths), results, reports)).ok();
         };
         let mut byte_calls = || {
             for b in &files {
-                black_box(unit::call(black_box(&day), black_box(b), black_box(&mut report))).ok();
+                black_box(unit::call(black_box(&day), black_box(b), black_box(&mut last_report))).ok();
             }
         };
         times.round(places, [Call(1, &mut one_call), Call(1, &mut byte_calls)]);
+        assert!(*our_results == results && *our_reports == reports && *last_report == report, "a report differs");
     })
 }
 
@@ -130,21 +134,19 @@ fn a_copy(places: &mut Places) -> impl FnMut(&[u32]) {
 /// of `other` on that batch.
 fn netting<F: FnMut(&[u32])>(name: &str, limit: f64, pieces: u32, other: impl Fn(&mut Places) -> F + 'static) -> Figure {
     let a = account(LARGEST);
-    let (mut ours, mut theirs) = ([[7; NETS]; 2], [[0; NETS]; 2]);
-    let ([our_nets, our_dvps], [nets, dvps]) = (&mut ours, &mut theirs);
-    assert!(unit::net_times(&a.day, &a.batch, our_nets, our_dvps, NETTINGS - 1), "accepted");
-    plain::net(&a.batch, nets, dvps);
-    assert!(ours == theirs, "the tables differ");
+    let (mut nets, mut dvps) = ([0; NETS], [0; NETS]);
+    plain::net(&a.batch, &mut nets, &mut dvps);
     Figure::new(name.to_string(), Some(limit), move |places, times| {
         let (day, batch) = (places.memory(&a.day), places.memory(&a.batch));
-        let [mut nets, mut dvps] = [(); 2].map(|_| places.memory(&[0; NETS]));
+        let [mut our_nets, mut our_dvps] = [(); 2].map(|_| places.memory(&[7; NETS]));
         let mut other = other(places);
         let mut unit_call = || {
-            let [nets, dvps] = black_box([&mut nets, &mut dvps]);
+            let [nets, dvps] = black_box([&mut our_nets, &mut our_dvps]);
             black_box(unit::net_times(black_box(&day), black_box(&batch), nets, dvps, NETTINGS - 1));
         };
         let mut other_calls = || (0..NETTINGS).for_each(|_| other(black_box(&batch)));
         times.round(places, [Call(pieces * NETTINGS, &mut unit_call), Call(NETTINGS, &mut other_calls)]);
+        assert!(*our_nets == nets && *our_dvps == dvps, "a table differs");
     })
 }
 
