@@ -1,5 +1,6 @@
 //! Random accounts, and accounts damaged so that each row of the table refuses some of them.
 use crate::fields::{self, Class, Record, Series, EQUITY};
+use crate::layout::{class_at, series_at, CLASS_WORDS, SERIES_WORDS};
 use crate::reckoner::reckon;
 use crate::rng::Rng;
 
@@ -111,12 +112,13 @@ fn counts(day: &[u32]) -> (usize, usize) {
     ((day[0] & 127) as usize, (day[0] >> 7 & 511) as usize)
 }
 
-fn series_at(day: &[u32], s: usize) -> usize {
-    1 + 20 * counts(day).0 + 14 * s
+/// Word i of series s.
+fn series_word(day: &[u32], s: usize, i: usize) -> u32 {
+    day[series_at(counts(day).0, s) + i]
 }
 
 fn type_of(day: &[u32], s: usize) -> u32 {
-    day[series_at(day, s)] >> 19 & 15
+    series_word(day, s, 0) >> 19 & 15
 }
 
 pub fn amount_words(negative: bool, size: u64) -> [u32; 3] {
@@ -135,7 +137,7 @@ pub fn batch(rng: &mut Rng, day: &[u32], records: usize) -> Vec<u32> {
     for _ in 0..records {
         let s = rng.below(series as u64) as usize;
         let t = type_of(day, s);
-        let multiplier = u64::from(day[series_at(day, s) + 1] & 0x1fff_ffff);
+        let multiplier = u64::from(series_word(day, s, 1) & 0x1fff_ffff);
         let exercised = (t == 2 || t == 3) && rng.once_in(3);
         let security = t >= 4;
         let fail = security && rng.once_in(3);
@@ -300,8 +302,8 @@ pub fn damage(rng: &mut Rng, a: &mut Account) {
     }
     let (c, s) = counts(&a.day);
     let p = (a.batch.len() - 1) / 6;
-    let class = |rng: &mut Rng| 1 + 20 * rng.below(c.max(1) as u64) as usize;
-    let series = |rng: &mut Rng| 1 + 20 * c + 14 * rng.below(s.max(1) as u64) as usize;
+    let class = |rng: &mut Rng| class_at(rng.below(c.max(1) as u64) as usize);
+    let series = |rng: &mut Rng| series_at(c, rng.below(s.max(1) as u64) as usize);
     let record = |rng: &mut Rng| 1 + 6 * rng.below(p.max(1) as u64) as usize;
     match rng.below(30) {
         // any word, any bit
@@ -318,23 +320,22 @@ pub fn damage(rng: &mut Rng, a: &mut Account) {
         8 if c > 0 => a.day[class(rng)] |= rng.pick(&[1 << 11, 1 << 28, 29, 31]),
         9 if c > 0 => a.day[class(rng) + 9] = word(4, rng.pick(&[100, 101, 0, 536_870_911])),
         10 if c > 1 => {
-            let at = 1 + 20 * rng.within(1, c as u64 - 1) as usize;
-            a.day[at] = a.day[at] & !(63 << 5) | a.day[at - 20] & 63 << 5;
+            let at = class_at(rng.within(1, c as u64 - 1) as usize);
+            a.day[at] = a.day[at] & !(63 << 5) | a.day[at - CLASS_WORDS] & 63 << 5;
         }
         11 if c > 0 => a.day[class(rng) + rng.within(1, 8) as usize] = word(3, rng.pick(&[500_000_000, 500_000_001])),
         // series
         12 if s > 0 => a.day[series(rng)] ^= 1 << rng.within(23, 28),
         13 if s > 1 => {
-            let at = 1 + 20 * c + 14 * rng.within(1, s as u64 - 1) as usize;
-            let copied: Vec<u32> = a.day[at - 14..at].to_vec();
-            a.day[at..at + 14].copy_from_slice(&copied);
+            let at = series_at(c, rng.within(1, s as u64 - 1) as usize);
+            a.day.copy_within(at - SERIES_WORDS..at, at);
         }
         14 if s > 0 => a.day[series(rng)] ^= 1 << rng.within(19, 22),
         15 if s > 0 => a.day[series(rng) + 2] = word(3, rng.below(3) as u32),
         16 if s > 0 => a.day[series(rng)] ^= 1 << rng.below(19),
         17 if s > 0 => a.day[series(rng) + 1] = word(4, rng.pick(&[0, 1, 10_000, 10_001])),
         18 if s > 0 => {
-            let at = 1 + 20 * c + 14 * (s - 1);
+            let at = series_at(c, s - 1);
             a.day[at] = word(2, (a.day[at] & 0x7f_ffff) & !(15 << 19) | rng.pick(&[0, 7, 15]) << 19 | a.day[at] & 63 << 23);
         }
         // records
@@ -368,8 +369,8 @@ pub fn damage(rng: &mut Rng, a: &mut Account) {
 /// Both lengths follow from their headers.
 fn whole(a: &Account) -> bool {
     let (Some(&day), Some(&batch)) = (a.day.first(), a.batch.first()) else { return false };
-    let (c, s, p) = (day & 127, day >> 7 & 511, batch & 0x1fff_ffff);
-    a.day.len() as u64 == u64::from(1 + 20 * c + 14 * s) && a.batch.len() as u64 == 1 + 6 * u64::from(p)
+    let (c, s, p) = ((day & 127) as usize, (day >> 7 & 511) as usize, batch & 0x1fff_ffff);
+    a.day.len() == series_at(c, s) && a.batch.len() as u64 == 1 + 6 * u64::from(p)
 }
 
 fn flip(rng: &mut Rng, words: &mut [u32]) {

@@ -3,6 +3,7 @@ pub mod accounts;
 pub mod cases;
 pub mod fields;
 pub mod files;
+pub mod layout;
 pub mod many;
 pub mod places;
 pub mod plain;

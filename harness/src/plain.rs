@@ -1,4 +1,5 @@
 //! The same work in straight 64-bit Rust: the baseline of the benchmark. Its answers are held to the reckoner's in the tests.
+use crate::layout::{class_at, series_at, CLASS_WORDS, LONGEST_DAY, SERIES_WORDS};
 
 /// Entries of a table of nets, one a position.
 pub const NETS: usize = 1024;
@@ -27,11 +28,11 @@ struct Day<'a> {
 
 impl Day<'_> {
     fn class(&self, c: usize, i: usize) -> u32 {
-        payload(self.words[1 + 20 * c + i])
+        payload(self.words[class_at(c) + i])
     }
 
     fn one(&self, s: usize, i: usize) -> u32 {
-        payload(self.words[1 + 20 * self.classes + 14 * s + i])
+        payload(self.words[series_at(self.classes, s) + i])
     }
 
     fn series_type(&self, s: usize) -> u32 {
@@ -45,7 +46,7 @@ impl Day<'_> {
     fn check(&self) -> Option<(u64, usize)> {
         const PRICE: u32 = 500_000_000;
         for c in 0..self.classes {
-            let w = &self.words[1 + 20 * c..21 + 20 * c];
+            let w = &self.words[class_at(c)..][..CLASS_WORDS];
             let wrong =
                 bad(w[0], 2, 2047) || w[0] & 31 > 28 || bad(w[9], 4, 100) || (1..9).chain(10..20).any(|i| bad(w[i], 3, PRICE));
             if wrong {
@@ -53,8 +54,7 @@ impl Day<'_> {
             }
         }
         for s in 0..self.series {
-            let at = 1 + 20 * self.classes + 14 * s;
-            let w = &self.words[at..at + 14];
+            let w = &self.words[series_at(self.classes, s)..][..SERIES_WORDS];
             if kind(w[0]) != 2 || bad(w[1], 4, 10_000) || payload(w[1]) == 0 || w[2..].iter().any(|&x| bad(x, 3, PRICE)) {
                 return Some((12, self.classes + s));
             }
@@ -247,7 +247,7 @@ pub fn call_words(day: &[u32], batch: &[u32], memory: &mut [u32]) -> u64 {
     if kind(header) != 1 || payload(header) >> 16 != 0 || classes > 64 || series > 256 {
         return answer(10, 0);
     }
-    if day.len() != 1 + 20 * classes + 14 * series {
+    if day.len() != series_at(classes, series) {
         return answer(11, 0);
     }
     let day = Day { words: day, classes, series };
@@ -336,13 +336,13 @@ pub fn call_words(day: &[u32], batch: &[u32], memory: &mut [u32]) -> u64 {
 
 /// The byte call, words low byte first.
 pub fn call(day: &[u8], batch: &[u8], memory: &mut [u8]) -> u64 {
-    if day.len() % 4 != 0 || day.len() > 4 * 4865 {
+    if day.len() % 4 != 0 || day.len() > 4 * LONGEST_DAY {
         return answer(1, 0);
     }
     if batch.len() % 4 != 0 || batch.len() > 4 * 1537 {
         return answer(2, 0);
     }
-    let mut day_words = [0u32; 4865];
+    let mut day_words = [0u32; LONGEST_DAY];
     let mut batch_words = [0u32; 1537];
     let mut report = [0u32; 1115];
     let decode = |bytes: &[u8], words: &mut [u32]| {

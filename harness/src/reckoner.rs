@@ -1,4 +1,5 @@
 //! The scope as plain Rust: records and maps, 128-bit amounts, nothing shared with the unit.
+use crate::layout::{class_at, series_at, CLASS_WORDS, LONGEST_DAY, SERIES_WORDS};
 use std::collections::BTreeMap;
 
 /// A refusal: its number and place.
@@ -139,18 +140,18 @@ pub fn read_day(day: &[u32]) -> Result<DayFile, Refusal> {
     if kind(header) != 1 || payload(header) >> 16 != 0 || c > 64 || s > 256 {
         return refuse(10, 0);
     }
-    if day.len() != 1 + 20 * c + 14 * s {
+    if day.len() != series_at(c, s) {
         return refuse(11, 0);
     }
     let mut classes = Vec::new();
-    for (i, w) in day[1..1 + 20 * c].chunks(20).enumerate() {
+    for (i, w) in day[1..class_at(c)].chunks(CLASS_WORDS).enumerate() {
         match class_record(w) {
             Some(class) => classes.push(class),
             None => return refuse(12, i),
         }
     }
     let mut series = Vec::new();
-    for (i, w) in day[1 + 20 * c..].chunks(14).enumerate() {
+    for (i, w) in day[class_at(c)..].chunks(SERIES_WORDS).enumerate() {
         match series_record(w) {
             Some(one) => series.push(one),
             None => return refuse(12, c + i),
@@ -443,7 +444,7 @@ pub fn to_bytes(words: &[u32]) -> Vec<u8> {
 
 /// The byte call: rows 1 and 2 first.
 pub fn call_bytes(day: &[u8], batch: &[u8], memory: &mut [u8]) -> Result<usize, Refusal> {
-    if day.len() % 4 != 0 || day.len() > 4 * 4865 {
+    if day.len() % 4 != 0 || day.len() > 4 * LONGEST_DAY {
         return refuse(1, 0);
     }
     if batch.len() % 4 != 0 || batch.len() > 4 * 1537 {

@@ -1,5 +1,6 @@
 //! The byte call against the reckoner: number, place and every byte of the memory.
 use harness::accounts::{accepted, account, all_lines, damage, extreme, mixed, utmost, Account, SMALL, TYPICAL};
+use harness::layout::{series_at, LONGEST_DAY};
 use harness::reading::read_report;
 use harness::reckoner::{call_bytes, reckon, text, to_bytes, to_words, words, Refusal};
 use harness::rng::Rng;
@@ -47,7 +48,7 @@ fn room(rng: &mut Rng, a: &Account) -> usize {
 
 /// Changes that only files of bytes can have: a ragged length, nothing at all, more than the longest form.
 fn damage_bytes(rng: &mut Rng, day: &mut Vec<u8>, batch: &mut Vec<u8>) {
-    let longest = [4 * 4865, 4 * 1537];
+    let longest = [4 * LONGEST_DAY, 4 * 1537];
     let which = rng.below(2) as usize;
     let file = if which == 0 { day } else { batch };
     match rng.below(6) {
@@ -87,7 +88,7 @@ fn random_and_damaged_accounts() {
             longest = longest.max(n);
             let classes = (a.day[0] & 127) as usize;
             for record in a.batch[1..].chunks(6) {
-                let series = 1 + 20 * classes + 14 * (record[0] & 255) as usize;
+                let series = series_at(classes, (record[0] & 255) as usize);
                 types.insert((a.day[series] >> 19 & 15, record[0] >> 8 & 1 == 1, record[0] >> 9 & 1 == 1));
             }
         }

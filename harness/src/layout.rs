@@ -1,0 +1,17 @@
+//! The day file's layout, for all that reads or makes one here.
+
+pub const CLASS_WORDS: usize = 20;
+pub const SERIES_WORDS: usize = 14;
+
+/// The words of the longest day file.
+pub const LONGEST_DAY: usize = series_at(64, 256);
+
+/// Where class c stands.
+pub const fn class_at(c: usize) -> usize {
+    1 + CLASS_WORDS * c
+}
+
+/// Where series s stands in a file of so many classes; with s the number of series, the words of the file.
+pub const fn series_at(classes: usize, s: usize) -> usize {
+    class_at(classes) + SERIES_WORDS * s
+}
