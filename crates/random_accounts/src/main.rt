@@ -10,12 +10,21 @@ ghost use Rattle.model.specs.Calls.{memoryAfter};
 ghost use Rattle.program.specs.Files.{callText};
 ghost use Rattle.text.specs.Room.{longestText};
 ghost use Rattle.random_accounts.specs.Fronts.{front, behind};
+use batch::RECORD_WORDS;
+use byte_check::LONGEST_BATCH;
+use byte_check::LONGEST_DAY;
 use byte_room::LONGEST_REPORT;
 use case_lengths::at_most;
 use case_lengths::lengths_within;
 use libc::STDOUT_FILENO;
 use text::lines::LONGEST_TEXT;
 use words::word_at;
+
+// Room for a day file that is a word too long.
+const DAY_ROOM: usize = LONGEST_DAY + 1;
+
+// Room for a batch that is a record too long.
+const BATCH_ROOM: usize = LONGEST_BATCH + RECORD_WORDS;
 
 // The file's next bytes as words; the number of bytes that it gave.
 fn read_part(fd: i32, bytes: &mut [u8], words: &mut [u32]) -> usize
@@ -73,15 +82,15 @@ fn print_fronts(
 
 // The file's next case: three lengths in words, the day file, the batch.
 fn run_next(fd: i32, i: u32) {
-    let mut bytes = [0u8; 19600];
+    let mut bytes = [0u8; 4 * DAY_ROOM];
     let mut lengths = [0u32; 3];
-    let mut day = [0u32; 4900];
-    let mut batch = [0u32; 1600];
+    let mut day = [0u32; DAY_ROOM];
+    let mut batch = [0u32; BATCH_ROOM];
     let mut memory = [0u32; LONGEST_REPORT];
     let mut out = [0u8; LONGEST_TEXT];
     read_words(fd, 3, &mut bytes, &mut lengths);
-    read_words(fd, at_most(lengths[0], 4900), &mut bytes, &mut day);
-    read_words(fd, at_most(lengths[1], 1600), &mut bytes, &mut batch);
+    read_words(fd, at_most(lengths[0], DAY_ROOM), &mut bytes, &mut day);
+    read_words(fd, at_most(lengths[1], BATCH_ROOM), &mut bytes, &mut batch);
     print_fronts(i, &lengths, &day, &batch, &mut memory, &mut out);
 }
 
