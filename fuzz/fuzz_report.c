@@ -16,6 +16,7 @@
 #include <unistd.h>
 
 #define HEAD 4
+#define SERIES_WORDS 15
 #define ROOM (128 * 1024)
 #define FILL(i) ((uint8_t)((i) * 31 + 7))
 
@@ -196,7 +197,7 @@ static size_t mutate(uint8_t *data, size_t size, size_t most, uint64_t seed) {
         if (count == 0) continue;
         uint8_t *at = words + 4 * (next_random(&state) % count);
         size_t classes = day_words ? get(day) & 127u : 0, records = batch_words / 6;
-        size_t series_at = 1 + 20 * classes, series = day_words > series_at ? (day_words - series_at) / 14 : 0;
+        size_t series_at = 1 + 20 * classes, series = day_words > series_at ? (day_words - series_at) / SERIES_WORDS : 0;
         switch (next_random(&state) % 10) {
         case 0: put(at, get(at) ^ 1u << next_random(&state) % 32); break;
         case 1:
@@ -205,8 +206,8 @@ static size_t mutate(uint8_t *data, size_t size, size_t most, uint64_t seed) {
         case 4: put(at, (get(at) & 0x1fffffffu) | next_random(&state) << 29); break;
         case 5: /* a record over another */
             if (in_day && series > 1)
-                memmove(day + 4 * (series_at + 14 * (next_random(&state) % series)),
-                        day + 4 * (series_at + 14 * (next_random(&state) % series)), 56);
+                memmove(day + 4 * (series_at + SERIES_WORDS * (next_random(&state) % series)),
+                        day + 4 * (series_at + SERIES_WORDS * (next_random(&state) % series)), 4 * SERIES_WORDS);
             else if (!in_day && records > 1 && batch_words >= 1 + 6 * records)
                 memmove(batch + 4 + 24 * (next_random(&state) % records), batch + 4 + 24 * (next_random(&state) % records), 24);
             break;

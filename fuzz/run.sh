@@ -10,7 +10,7 @@ mkdir -p "$out/corpus" "$out/found"
 cargo run --quiet --release --manifest-path ../harness/Cargo.toml --bin seeds -- "$out/seeds"
 strict="-std=c11 -Wall -Wextra -Werror -O1 -g -fno-sanitize-recover=all"
 if clang $strict -fsanitize=fuzzer,address,undefined fuzz_report.c "$library" -o "$out/fuzz_report" 2>"$out/clang.txt"; then
-    exec "$out/fuzz_report" -max_total_time="$seconds" -max_len=26000 -len_control=0 -reduce_inputs=0 -print_final_stats=1 \
+    exec "$out/fuzz_report" -max_total_time="$seconds" -max_len=27000 -len_control=0 -reduce_inputs=0 -print_final_stats=1 \
         -artifact_prefix="$out/found/" "$out/corpus" "$out/seeds"
 fi
 echo "fuzz: no libFuzzer (see target/fuzz/clang.txt), own loop"

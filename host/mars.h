@@ -19,7 +19,7 @@ extern "C" {
 #endif
 
 /* The longest forms, in bytes. A report memory of MARS_REPORT_BYTES is always long enough. */
-#define MARS_DAY_BYTES 19460    /* 1 + 20 x 64 + 14 x 256 words */
+#define MARS_DAY_BYTES 20484    /* 1 + 20 x 64 + 15 x 256 words */
 #define MARS_BATCH_BYTES 6148   /* 1 + 6 x 256 words */
 #define MARS_REPORT_BYTES 4460  /* 13 + 19 x 58 words */
 
@@ -108,7 +108,7 @@ enum mars_refusal {
     MARS_CLASS_OFFSET = 14,     /* offset differs from an earlier class of the group; place: class */
     MARS_SERIES_CLASS = 15,     /* the series' class is absent; place: series, here and in the two below */
     MARS_SERIES_ORDER = 16,     /* key, then strike, not above the series before */
-    MARS_SERIES_TYPE = 17,      /* type unknown, or serial, strike or expiry not 0 where the type has none */
+    MARS_SERIES_TYPE = 17,      /* type unknown, or serial, strike, expiry or adjustment not 0 where the type has none */
     MARS_BATCH_HEADER = 20,     /* batch header: no words, wrong kind, too many records */
     MARS_BATCH_LENGTH = 21,     /* batch's length does not follow from its header */
     MARS_BATCH_WORD = 22,       /* wrong kind, spare bit, out of range, minus zero; place: record, here and below */

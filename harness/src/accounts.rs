@@ -54,6 +54,15 @@ fn near(rng: &mut Rng, base: u32) -> u32 {
     moved.saturating_sub(span).min(500_000_000) as u32
 }
 
+/// A short option adjustment: none, near the closing price as the theoretical prices are, or any price.
+fn adjustment(rng: &mut Rng, closing: u32) -> u32 {
+    match rng.below(4) {
+        0 => 0,
+        1 => price(rng),
+        _ => near(rng, closing),
+    }
+}
+
 /// A day file: `classes` and `series` are exact counts (fewer series where keys clash).
 pub fn day_file(rng: &mut Rng, classes: usize, series: usize) -> Vec<u32> {
     let mut numbers: Vec<u32> = (0..64).collect();
@@ -101,6 +110,8 @@ pub fn day_file(rng: &mut Rng, classes: usize, series: usize) -> Vec<u32> {
         out.push(word(4, rng.pick(&[1, 1, 5, 100, 1000, 10_000])));
         out.push(word(3, strike));
         out.push(word(3, closing));
+        let option = matches!(key >> 19 & 15, 2 | 3);
+        out.push(word(3, if option { adjustment(rng, closing) } else { 0 }));
         for _ in 0..10 {
             out.push(word(3, near(rng, closing)));
         }
@@ -255,6 +266,7 @@ pub fn extreme(rng: &mut Rng) -> Account {
                 multiplier: rng.pick(&[1, 1, 1, 10_000]),
                 strike: if series_type == 2 || series_type == 3 { high(rng) } else { 0 },
                 closing: high(rng),
+                adjustment: if series_type == 2 || series_type == 3 { high(rng) } else { 0 },
                 theoretical: [0; 10].map(|_| high(rng)),
             }
         })
@@ -305,7 +317,7 @@ pub fn damage(rng: &mut Rng, a: &mut Account) {
     let class = |rng: &mut Rng| class_at(rng.below(c.max(1) as u64) as usize);
     let series = |rng: &mut Rng| series_at(c, rng.below(s.max(1) as u64) as usize);
     let record = |rng: &mut Rng| 1 + 6 * rng.below(p.max(1) as u64) as usize;
-    match rng.below(30) {
+    match rng.below(31) {
         // any word, any bit
         0 => flip(rng, &mut a.day),
         1 => flip(rng, &mut a.batch),
@@ -338,6 +350,8 @@ pub fn damage(rng: &mut Rng, a: &mut Account) {
             let at = series_at(c, s - 1);
             a.day[at] = word(2, (a.day[at] & 0x7f_ffff) & !(15 << 19) | rng.pick(&[0, 7, 15]) << 19 | a.day[at] & 63 << 23);
         }
+        // an adjustment: on an option any price, on another series refused
+        30 if s > 0 => a.day[series(rng) + 4] = word(3, rng.pick(&[0, 1, 500_000_000, 500_000_001])),
         // records
         19 if p > 0 => a.batch[record(rng)] ^= 1 << rng.within(0, 7),
         20 if p > 0 => a.batch[record(rng)] ^= 1 << 8,

@@ -35,6 +35,7 @@ pub struct Series {
     pub multiplier: u32,
     pub strike: u32,
     pub closing: u32,
+    pub adjustment: u32,
     pub theoretical: [u32; 10],
 }
 
@@ -65,7 +66,7 @@ fn class_words(c: &Class) -> Vec<u32> {
 
 fn series_words(s: &Series) -> Vec<u32> {
     let key = s.serial | s.expiry << 7 | s.series_type << 19 | s.class_number << 23;
-    let mut out = vec![word(2, key), word(4, s.multiplier), word(3, s.strike), word(3, s.closing)];
+    let mut out = vec![word(2, key), word(4, s.multiplier), word(3, s.strike), word(3, s.closing), word(3, s.adjustment)];
     out.extend(s.theoretical.map(|p| word(3, p)));
     out
 }

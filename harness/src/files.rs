@@ -6,11 +6,12 @@ use std::process::ExitCode;
 /// A path below the repository's top folder, and the content.
 pub type Made = (PathBuf, Vec<u8>);
 
-fn top() -> PathBuf {
+/// The repository's top folder.
+pub fn top() -> PathBuf {
     Path::new(env!("CARGO_MANIFEST_DIR")).join("..")
 }
 
-fn write(files: &[Made]) -> std::io::Result<()> {
+fn write_each(files: &[Made]) -> std::io::Result<()> {
     for (path, content) in files {
         let path = top().join(path);
         fs::create_dir_all(path.parent().unwrap())?;
@@ -19,17 +20,21 @@ fn write(files: &[Made]) -> std::io::Result<()> {
     Ok(())
 }
 
+pub fn write(files: &[Made]) -> ExitCode {
+    match write_each(files) {
+        Ok(()) => ExitCode::SUCCESS,
+        Err(e) => {
+            eprintln!("{e}");
+            ExitCode::FAILURE
+        }
+    }
+}
+
 /// Without arguments writes the files; with `--check` compares them and fails on a difference.
 pub fn write_or_check(files: &[Made]) -> ExitCode {
     let arguments: Vec<String> = std::env::args().skip(1).collect();
     match arguments.iter().map(String::as_str).collect::<Vec<_>>()[..] {
-        [] => match write(files) {
-            Ok(()) => ExitCode::SUCCESS,
-            Err(e) => {
-                eprintln!("{e}");
-                ExitCode::FAILURE
-            }
-        },
+        [] => write(files),
         ["--check"] => {
             let mut status = ExitCode::SUCCESS;
             for (path, content) in files {

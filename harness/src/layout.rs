@@ -1,7 +1,7 @@
 //! The day file's layout, for all that reads or makes one here.
 
 pub const CLASS_WORDS: usize = 20;
-pub const SERIES_WORDS: usize = 14;
+pub const SERIES_WORDS: usize = 15;
 
 /// The words of the longest day file.
 pub const LONGEST_DAY: usize = series_at(64, 256);

@@ -86,9 +86,9 @@ impl Day<'_> {
         for s in 0..self.series {
             let (key, strike) = (self.one(s, 0), self.one(s, 2));
             let wrong = match self.series_type(s) {
-                1 => key & 127 != 0 || strike != 0,
+                1 => key & 127 != 0 || strike != 0 || self.one(s, 4) != 0,
                 2 | 3 => key & 127 != 0,
-                4..=6 => strike != 0 || key >> 7 & 4095 != 0,
+                4..=6 => strike != 0 || key >> 7 & 4095 != 0 || self.one(s, 4) != 0,
                 _ => true,
             };
             if wrong {
@@ -213,7 +213,12 @@ fn class_sums(day: &Day, nets: &[i64; NETS], dvps: &[i64; NETS], book: usize, c:
         }
         if counted != 0 {
             for (k, point) in points.iter_mut().enumerate() {
-                *point += counted * m * (i64::from(day.one(s, 4 + k)) - closing);
+                *point += counted * m * (i64::from(day.one(s, 5 + k)) - closing);
+            }
+            if counted > 0 && (t == 2 || t == 3) {
+                let k = if t == 2 { 9 } else { 0 };
+                let more = day.one(s, 4).saturating_sub(day.one(s, 5 + k));
+                points[k] += counted * m * i64::from(more);
             }
         }
         if done != 0 {

@@ -47,6 +47,7 @@ pub struct Series {
     pub multiplier: i128,
     pub strike: i128,
     pub closing: i128,
+    pub adjustment: i128,
     pub theoretical: [i128; 10],
 }
 
@@ -117,7 +118,7 @@ fn series_record(w: &[u32]) -> Option<Series> {
     let key = payload(w[0]);
     let mut theoretical = [0; 10];
     for (k, slot) in theoretical.iter_mut().enumerate() {
-        *slot = payload(w[4 + k]) as i128;
+        *slot = payload(w[5 + k]) as i128;
     }
     Some(Series {
         key,
@@ -128,6 +129,7 @@ fn series_record(w: &[u32]) -> Option<Series> {
         multiplier: payload(w[1]) as i128,
         strike: payload(w[2]) as i128,
         closing: payload(w[3]) as i128,
+        adjustment: payload(w[4]) as i128,
         theoretical,
     })
 }
@@ -184,7 +186,7 @@ pub fn read_day(day: &[u32]) -> Result<DayFile, Refusal> {
             4..=6 => one.strike != 0 || one.expiry != 0,
             _ => true,
         };
-        if bad {
+        if bad || (one.adjustment != 0 && !is_option(one.series_type)) {
             return refuse(17, i);
         }
     }
@@ -285,6 +287,17 @@ pub struct Report {
     pub totals: [i128; 3],
 }
 
+/// The ten prices of a series for an open position: those delivered, but for a short option the adjustment may replace one.
+fn open_prices(one: &Series, net: i128) -> [i128; 10] {
+    let mut prices = one.theoretical;
+    match (one.series_type, net.signum()) {
+        (2, 1) => prices[9] = prices[9].max(one.adjustment),
+        (3, 1) => prices[0] = prices[0].max(one.adjustment),
+        _ => {}
+    }
+    prices
+}
+
 /// The spread margin of a class's futures, given in order of expiry, and what is left of each net.
 fn spread(nets: &[i128], class: &Class) -> (i128, Vec<i128>) {
     let short: i128 = nets.iter().filter(|n| **n > 0).sum();
@@ -331,8 +344,9 @@ fn line(day: &DayFile, positions: &BTreeMap<Key, Position>, fail: bool, group: u
                 premium += done.net * one.multiplier * sign * (class.underlying - one.strike);
             }
             let counted = left.get(&s).copied().unwrap_or(open.net);
+            let prices = open_prices(one, counted);
             for (k, point) in class_points.iter_mut().enumerate() {
-                *point += counted * one.multiplier * (one.theoretical[k] - one.closing);
+                *point += counted * one.multiplier * (prices[k] - one.closing);
                 if is_option(one.series_type) {
                     *point += done.net * one.multiplier * sign * (class.projected[k] - class.underlying);
                 }

@@ -1,7 +1,8 @@
-//! The cases of ../vectors/U01.txt: lines of a name and plain numbers, an empty line behind each case.
+//! The cases of a request, ../vectors/U01.txt and so on: lines of a name and plain numbers, an empty line behind each case.
+use crate::files::top;
 use std::collections::BTreeMap;
 use std::fs;
-use std::path::Path;
+use std::path::{Path, PathBuf};
 
 pub struct Case {
     /// The request, the case's number in its file and the call.
@@ -23,6 +24,13 @@ impl Case {
         vec![7; self.field(name)[0] as usize]
     }
 
+    /// The memory afterwards: the words written, and behind them what was lent.
+    pub fn memory_after(&self) -> Vec<u32> {
+        let (mut memory, written) = (self.lent("memory"), self.words("written"));
+        memory[..written.len()].copy_from_slice(&written);
+        memory
+    }
+
     /// Number and value of the answer.
     pub fn answer(&self) -> (u32, usize) {
         let answer = self.field("answer");
@@ -31,10 +39,14 @@ impl Case {
     }
 }
 
+/// Where they stand, below the repository's top folder.
+pub fn path(request: &str) -> PathBuf {
+    Path::new("vectors").join(format!("{request}.txt"))
+}
+
 /// The cases of a request, numbered from 0 without a gap, as many as are said to be there.
 pub fn cases(request: &str, count: usize) -> Vec<Case> {
-    let path = Path::new(env!("CARGO_MANIFEST_DIR")).join("../vectors").join(format!("{request}.txt"));
-    let text = fs::read_to_string(&path).unwrap_or_else(|e| panic!("{}: {e}", path.display()));
+    let text = fs::read_to_string(top().join(path(request))).unwrap_or_else(|e| panic!("{request}: {e}"));
     let mut out: Vec<Case> = Vec::new();
     for line in text.lines().filter(|l| !l.is_empty()) {
         let mut parts = line.split(' ');
@@ -48,6 +60,6 @@ pub fn cases(request: &str, count: usize) -> Vec<Case> {
         let case = out.last_mut().expect("a case");
         assert!(case.fields.insert(name.to_string(), numbers).is_none(), "{}: {name} twice", case.name);
     }
-    assert_eq!(out.len(), count, "{}", path.display());
+    assert_eq!(out.len(), count, "{request}");
     out
 }

@@ -1,5 +1,6 @@
 //! The sample accounts, made from their fields.
 use crate::accounts::Account;
+use crate::cases::with_adjustment;
 use crate::fields::{account, expiry, Class, Record, Series, CALL, EQUITY, FUTURE, PUT};
 use crate::files::Made;
 use crate::reckoner::{reckon, text, to_bytes};
@@ -143,6 +144,11 @@ pub fn samples() -> Vec<Sample> {
             "M5's ten short calls, M2's two exercised calls and four open puts, two classes of one group.",
             options(),
         ),
+        sample(
+            "adjustment",
+            "U3: M5's ten short calls with a short option adjustment of 0.50; at upside 5 they add 3,300, not 2,390.",
+            with_adjustment(5_000, 0, 10),
+        ),
         sample("refused", "M8: net 1,000 at multiplier 10,000 passes, net 1,001 in record 1 is refused by row 30.", refused()),
     ]
 }
@@ -185,15 +191,23 @@ fn host_text(a: &Account) -> String {
     out + "status 0\n"
 }
 
-/// All files of the folder `samples`, and what the C host is expected to print for them.
+fn account_files(folder: &Path, a: &Account) -> [Made; 2] {
+    [(folder.join("day.w32"), to_bytes(&a.day)), (folder.join("pos.w32"), to_bytes(&a.batch))]
+}
+
+/// All files of the folder `samples`, what the C host is expected to print for them, and the first as the report program's own check
+/// has it.
 pub fn files() -> Vec<Made> {
     let samples = samples();
     let folder = Path::new("samples");
     let mut out = vec![(folder.join("README.md"), readme(&samples).into_bytes())];
     for s in &samples {
-        out.push((folder.join(s.name).join("day.w32"), to_bytes(&s.account.day)));
-        out.push((folder.join(s.name).join("pos.w32"), to_bytes(&s.account.batch)));
+        out.extend(account_files(&folder.join(s.name), &s.account));
         out.push((Path::new("host/expected").join(format!("{}.txt", s.name)), host_text(&s.account).into_bytes()));
     }
+    let program = Path::new("crates/mars_report");
+    let first = &samples[0].account;
+    out.extend(account_files(&program.join("data"), first));
+    out.push((program.join("stdout"), text(&reckon(&first.day, &first.batch)).into_bytes()));
     out
 }

@@ -32,6 +32,16 @@ fn compare(day: &[u8], batch: &[u8], room: usize, fill: &mut Rng, case: &str) ->
     ours
 }
 
+/// The day file with every adjustment 0, where its length follows from its header.
+fn without_adjustments(day: &[u32]) -> Vec<u32> {
+    let mut out = day.to_vec();
+    let (classes, series) = day.first().map_or((0, 0), |h| ((h & 127) as usize, (h >> 7 & 511) as usize));
+    if day.len() == series_at(classes, series) {
+        (0..series).for_each(|s| out[series_at(classes, s) + 4] = 3 << 29);
+    }
+    out
+}
+
 /// A memory's length: mostly enough, else about the length needed or any other.
 fn room(rng: &mut Rng, a: &Account) -> usize {
     let needed = reckon(&a.day, &a.batch).map_or(13, |report| words(&report).len()) * 4;
@@ -67,6 +77,8 @@ fn random_and_damaged_accounts() {
     let mut fill = Rng::new(4712);
     let mut numbers: BTreeMap<u32, usize> = BTreeMap::new();
     let mut types: BTreeSet<(u32, bool, bool)> = BTreeSet::new();
+    // answers that are others without the adjustments, by number
+    let mut adjusted: BTreeMap<u32, usize> = BTreeMap::new();
     let mut longest = 0;
     for i in 0..60_000 {
         let mut a = account(&mut rng, mixed(i));
@@ -83,7 +95,11 @@ fn random_and_damaged_accounts() {
             }
         }
         let result = compare(&day, &batch, room, &mut fill, &format!("case {i}"));
-        *numbers.entry(result.err().map_or(0, |r| r.number)).or_default() += 1;
+        let number = result.err().map_or(0, |r| r.number);
+        *numbers.entry(number).or_default() += 1;
+        if matches!(number, 0 | 12 | 17) && reckon(&a.day, &a.batch) != reckon(&without_adjustments(&a.day), &a.batch) {
+            *adjusted.entry(number).or_default() += 1;
+        }
         if let Ok(n) = result {
             longest = longest.max(n);
             let classes = (a.day[0] & 127) as usize;
@@ -93,11 +109,12 @@ fn random_and_damaged_accounts() {
             }
         }
     }
-    println!("answers by number: {numbers:?}; longest report: {longest} words");
+    println!("answers by number: {numbers:?}, by the adjustments: {adjusted:?}; longest report: {longest} words");
     let reached: Vec<u32> = numbers.keys().copied().collect();
     let table = [0, 1, 2, 10, 11, 12, 13, 14, 15, 16, 17, 20, 21, 22, 23, 24, 25, 26, 30, 40];
     assert_eq!(reached, table);
     assert!(numbers[&0] >= 20_000);
+    assert!(adjusted[&0] >= 500 && adjusted[&12] >= 50 && adjusted[&17] >= 50);
     // every type open and in the ordinary book, options exercised, securities as fails
     let open = (1..=6).map(|t| (t, false, false));
     let all: BTreeSet<_> = open.chain([(2, true, false), (3, true, false)]).chain((4..=6).map(|t| (t, false, true))).collect();

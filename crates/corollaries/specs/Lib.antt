@@ -3,6 +3,7 @@ pub mod Readable
 pub mod Untouched
 pub mod Written
 pub mod Totals
+pub mod OpenPrices
 pub mod TwoGroups
 pub mod RuledOut
 pub mod Corollaries

@@ -3,7 +3,7 @@ ghost use mathlib.Core.Path.{_≡_};
 ghost use Prim.Native.Nat.{_+_, _*_, _≤_, _<_};
 ghost use lib.ListN.{length};
 ghost use Rattle.model.specs.DayFile.{dayHeader, classCount, seriesCount, classWord, classNumber, spotRate, nonSpotRate, optionRate, futureRate, equityRate, warrantRate, rightsRate, seriesWord, seriesKey, seriesType, seriesClassNumber, classAt, seriesAt, seriesWords};
-ghost use Rattle.model.specs.DayFile.{group as groupOf, underlying as underlyingOf, offset as offsetOf, serial as serialOf, expiry as expiryOf, multiplier as multiplierOf, strike as strikeOf, closing as closingOf};
+ghost use Rattle.model.specs.DayFile.{group as groupOf, underlying as underlyingOf, offset as offsetOf, serial as serialOf, expiry as expiryOf, multiplier as multiplierOf, strike as strikeOf, closing as closingOf, adjustment as adjustmentOf};
 use words::bits;
 use words::index;
 use words::payload;
@@ -13,7 +13,7 @@ use words::word_at;
 pub const CLASS_WORDS: usize = 20;
 
 // The words of a series.
-pub const SERIES_WORDS: usize = 14;
+pub const SERIES_WORDS: usize = 15;
 
 // The most classes.
 pub const MOST_CLASSES: usize = 64;
@@ -214,6 +214,14 @@ pub fn closing(day: &[u32], s: usize) -> u32
     ensures { λ r. ⌜ r ≡ closingOf (now (day .entry)) s ⌝ }
 {
     payload(series_word(day, s, 3))
+}
+
+// Short option adjustment.
+pub fn adjustment(day: &[u32], s: usize) -> u32
+    requires { ⌜ seriesAt (now day) (s + 1) ≤ length (now day) ⌝ }
+    ensures { λ r. ⌜ r ≡ adjustmentOf (now (day .entry)) s ⌝ }
+{
+    payload(series_word(day, s, 4))
 }
 
 // Word i of series s in words that may be too few, 0 past their end.

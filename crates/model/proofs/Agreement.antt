@@ -1,4 +1,4 @@
--- The definitions against worked figures, in one place: M1 to M9, the accounts on which seen mistakes show, what none of these shows, a refusal of each row, and the call for many accounts.
+-- The definitions against worked figures, in one place: M1 to M9, the accounts on which seen mistakes show, what none of these shows, a refusal of each row, the call for many accounts, and the short option adjustment.
 use mathlib.Core.Path.{_≡_}
 use Rattle.model.specs.Accounts.{allComputed, allPublished}
 use Rattle.model.specs.Figures.{figures, figures-agree}
@@ -6,6 +6,7 @@ use Rattle.model.specs.Mistakes.{mistakes, mistakes-agree}
 use Rattle.model.specs.Cases.{cases, cases-agree}
 use Rattle.model.specs.Refusals.{refusals, refusals-agree}
 use Rattle.model.specs.ManyFigures.{brokers, brokers-agree}
+use Rattle.model.specs.AdjustmentFigures.{adjustments, adjustments-agree}
 
 pub record Agreement : Type 0 where
   pub scope : allComputed figures ≡ allPublished figures
@@ -13,6 +14,7 @@ pub record Agreement : Type 0 where
   pub further : allComputed cases ≡ allPublished cases
   pub refused : allComputed refusals ≡ allPublished refusals
   pub many : allComputed brokers ≡ allPublished brokers
+  pub adjusted : allComputed adjustments ≡ allPublished adjustments
 
 pub agreement : Agreement
 agreement =
@@ -22,4 +24,5 @@ agreement =
       further = cases-agree;
       refused = refusals-agree;
       many = brokers-agree;
+      adjusted = adjustments-agree;
     }

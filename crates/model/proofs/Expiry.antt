@@ -14,7 +14,7 @@ use Rattle.numbers.specs.declared.Found.{Found}
 use Rattle.numbers.specs.declared.Found.the-variants.{At, Nothing}
 use Rattle.numbers.specs.Scan.{firstBad, first-at, first-before}
 use Rattle.model.specs.Words.{bits}
-use Rattle.model.specs.DayFile.{classCount, classNumber, seriesCount, seriesKey, serial, expiry, seriesType, seriesClassNumber, strike, isFuture, isDerivative, isSecurity, foundClass, placeOr, seriesClass}
+use Rattle.model.specs.DayFile.{classCount, classNumber, seriesCount, seriesKey, serial, expiry, seriesType, seriesClassNumber, strike, adjustment, isFuture, isOption, isDerivative, isSecurity, foundClass, placeOr, seriesClass}
 use Rattle.model.specs.DayChecks.{row16, row17}
 use Rattle.model.specs.Steps.{notZero, ofClass, futureOf, openNet, heldFuture}
 use Rattle.numbers.specs.Tests.{and-left, and-right, or-left, or-right}
@@ -78,9 +78,12 @@ module _ (d : List ℕ) (r : DayRows d) where
     abbrev D : Bool
     D = isSecurity (seriesType d s) && (ltb 0 (strike d s) || ltb 0 (expiry d s))
 
+    abbrev E : Bool
+    E = not (isOption (seriesType d s)) && ltb 0 (adjustment d s)
+
     front : (A || B || C) ≡ false
     unfolding row17
-    front = or-left (A || B || C) D (r .at17 s h)
+    front = or-left (A || B || C) D (or-left (A || B || C || D) E (r .at17 s h))
 
     no-serial : serial d s ≡ 0
     no-serial =

@@ -9,6 +9,7 @@ pub mod Read
 pub mod Length
 pub mod NoLine
 pub mod Expiry
+pub mod Prices
 pub mod Bounds
 pub mod Fit
 pub mod ByteWords

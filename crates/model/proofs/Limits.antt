@@ -13,7 +13,7 @@ use Rattle.numbers.specs.Scan.{firstBad, hit, first-clear}
 use Rattle.numbers.specs.Lists.{nothing-hit}
 use Rattle.model.specs.Limits.{priceLimit, quantityLimit, dvpAmountLimit, positionLimit, mostRecords, groupCount, wholeOffset, pointCount}
 use Rattle.model.specs.Words.{kind, payload, payloadLimit, bits, badWord, negative}
-use Rattle.model.specs.DayFile.{classCount, seriesCount, classWords, seriesWords, dayWords, classWord, seriesWord, group, underlying, spotRate, nonSpotRate, offset, projected, multiplier, strike, closing, theoretical}
+use Rattle.model.specs.DayFile.{classCount, seriesCount, classWords, seriesWords, dayWords, classWord, seriesWord, group, underlying, spotRate, nonSpotRate, offset, projected, multiplier, strike, closing, adjustment, theoretical}
 use Rattle.model.specs.DayChecks.{badClassWord, badSeriesWord, badClass, badSeries, row11, row12}
 use Rattle.model.specs.Batch.{batchHeader, recordCount, batchWords, recordWord, key, place, long, short, dvpSize, dvpAmount}
 use Rattle.model.specs.BatchChecks.{keyLimit, badRecordWord, badDvp, row20, row21, row22, row23, batchForm}
@@ -87,8 +87,11 @@ module _ (d : List ℕ) (r : DayRows d) where
     pub closing-limit : closing d s ≤ priceLimit
     closing-limit = series-price 3 (omega arith) (λ z. omega arith) (λ z. omega arith)
 
+    pub adjustment-limit : adjustment d s ≤ priceLimit
+    adjustment-limit = series-price 4 (omega arith) (λ z. omega arith) (λ z. omega arith)
+
     pub theoretical-limit : (k : ℕ) → k < pointCount → theoretical d s k ≤ priceLimit
-    theoretical-limit k l = series-price (4 + k) (omega arith) (λ z. omega arith) (λ z. omega arith)
+    theoretical-limit k l = series-price (5 + k) (omega arith) (λ z. omega arith) (λ z. omega arith)
 
     pub multiplier-least : 1 ≤ multiplier d s
     unfolding badSeries

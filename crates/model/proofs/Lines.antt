@@ -130,7 +130,7 @@ module _ (d : List ℕ) (n₁ v₁ n₂ v₂ : ℕ → ℤ) (k g : ℕ) (a : Agr
     unfolding Steps.classPoint
     point-same j =
         sumWhere-ext (seriesCount d) (Steps.ofClass d c) _ _
-        (λ s p q i. Steps.worth d s (counted-same s p q i) (Steps.openChange d s j) +ℤ Steps.worth d s (exercised-same s p q i) (Steps.exercisedChange d c s j))
+        (λ s p q i. Steps.worth d s (counted-same s p q i) (Steps.openChange d s (counted-same s p q i) j) +ℤ Steps.worth d s (exercised-same s p q i) (Steps.exercisedChange d c s j))
 
     type-same : (t : ℕ) → Steps.typeNet d n₁ k c t ≡ Steps.typeNet d n₂ k c t
     unfolding Steps.typeNet

@@ -83,7 +83,7 @@ module _ (d : List ℕ) (k : ℕ) where
   unfolding Steps.classPoint
   no-point c j =
       sumWhere-zeros (seriesCount d) (Steps.ofClass d c) _
-      (λ s i. no-worth s (Steps.countedNet d empty k c s) (Steps.openChange d s j) (no-counted c s) i
+      (λ s i. no-worth s (Steps.countedNet d empty k c s) (Steps.openChange d s (Steps.countedNet d empty k c s) j) (no-counted c s) i
       +ℤ no-worth s (pos 0) (Steps.exercisedChange d c s j) refl i)
 
   no-minimum : (c : ℕ) → Steps.minimum d empty k c ≡ pos 0

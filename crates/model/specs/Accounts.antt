@@ -45,10 +45,14 @@ percent p = p * (wholeOffset / 100)
 abbrev pub classRecord : ℕ → ℕ → List ℕ → ℕ → List ℕ → List ℕ
 classRecord g n rates o projected = word 2 (g + 2 ^ 5 * n) ∷ (map (word 3) rates ++ word 4 (percent o) ∷ map (word 3) projected)
 
--- class number, type, expiry; multiplier; strike, closing and theoretical prices
+-- class number, type, expiry; multiplier; strike and closing price; adjustment; theoretical prices
+abbrev pub adjustedRecord : ℕ → ℕ → ℕ → ℕ → List ℕ → ℕ → List ℕ → List ℕ
+adjustedRecord n type expiry multiplier prices a theoretical =
+    word 2 (2 ^ 7 * expiry + 2 ^ 19 * type + 2 ^ 23 * n) ∷ word 4 multiplier ∷ (map (word 3) prices ++ map (word 3) (a ∷ theoretical))
+
+-- .. with adjustment 0
 abbrev pub seriesRecord : ℕ → ℕ → ℕ → ℕ → List ℕ → List ℕ → List ℕ
-seriesRecord n type expiry multiplier prices theoretical =
-    word 2 (2 ^ 7 * expiry + 2 ^ 19 * type + 2 ^ 23 * n) ∷ word 4 multiplier ∷ (map (word 3) prices ++ map (word 3) theoretical)
+seriesRecord n type expiry multiplier prices theoretical = adjustedRecord n type expiry multiplier prices 0 theoretical
 
 abbrev pub batchFile : ℕ → List ℕ → List ℕ
 batchFile count records = word 1 count ∷ records

@@ -12,7 +12,7 @@ use Rattle.model.specs.Figures.{credit}
 use Rattle.model.specs.Computing.{everything}
 
 -- one series of each type; minimum rates 2, 3, 5, 7 and 11 units for options, futures, equities, warrants and rights
-abbrev types : List ℕ
+abbrev pub types : List ℕ
 types =
     dayFile 1 6
     (classRecord 4 0 (0 ∷ 0 ∷ 0 ∷ 2 ∷ 3 ∷ 5 ∷ 7 ∷ 11 ∷ []) 0 (ten 0)

@@ -15,7 +15,7 @@ use Rattle.model.specs.declared.Verdict.{Verdict}
 use Rattle.model.specs.Limits.{mostClasses, mostSeries, groupCount, multiplierLimit, wholeOffset}
 use Rattle.model.specs.Words.{kind, payload, payloadLimit, bits, badWord, badPrice}
 use Rattle.model.specs.Rows.{tried, plainRow, recordRow}
-use Rattle.model.specs.DayFile.{dayHeader, classCount, seriesCount, classWords, seriesWords, dayWords, classWord, group, classNumber, offset, seriesWord, seriesKey, serial, expiry, seriesType, multiplier, strike, isFuture, isDerivative, isSecurity, foundClass}
+use Rattle.model.specs.DayFile.{dayHeader, classCount, seriesCount, classWords, seriesWords, dayWords, classWord, group, classNumber, offset, seriesWord, seriesKey, serial, expiry, seriesType, multiplier, strike, adjustment, isFuture, isOption, isDerivative, isSecurity, foundClass}
 
 -- no words, wrong kind, spare bits, C or S too large
 unfoldable pub row10 : List ℕ → Bool
@@ -23,7 +23,7 @@ row10 d =
     eqb (length d) 0 || not (eqb (kind (dayHeader d)) 1) || ltb 0 (bits (payload (dayHeader d)) 16 13)
     || ltb mostClasses (classCount d) || ltb mostSeries (seriesCount d)
 
--- length isn't 1 + 20C + 14S
+-- length isn't 1 + 20C + 15S
 unfoldable pub row11 : List ℕ → Bool
 row11 d = not (eqb (length d) (dayWords (classCount d) (seriesCount d)))
 
@@ -71,13 +71,14 @@ row16 d s =
     && not (ltb (seriesKey d (s - 1)) (seriesKey d s)
     || (eqb (seriesKey d (s - 1)) (seriesKey d s) && ltb (strike d (s - 1)) (strike d s)))
 
--- no type of 1–6; serial not 0 on types 1–3; strike not 0 on a future; strike or expiry not 0 on a security
+-- no type of 1–6; serial not 0 on types 1–3; strike not 0 on a future; strike or expiry not 0 on a security; adjustment not 0 on a series that is no option (U3)
 unfoldable pub row17 : List ℕ → ℕ → Bool
 row17 d s =
     not (isDerivative (seriesType d s) || isSecurity (seriesType d s))
     || (isDerivative (seriesType d s) && ltb 0 (serial d s))
     || (isFuture (seriesType d s) && ltb 0 (strike d s))
     || (isSecurity (seriesType d s) && (ltb 0 (strike d s) || ltb 0 (expiry d s)))
+    || (not (isOption (seriesType d s)) && ltb 0 (adjustment d s))
 
 -- ---- the rows in their order
 

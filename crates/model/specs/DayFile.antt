@@ -27,7 +27,7 @@ abbrev pub classWords : ℕ
 classWords = 20
 
 abbrev pub seriesWords : ℕ
-seriesWords = 14
+seriesWords = 15
 
 -- where class c stands
 abbrev pub classAt : ℕ → ℕ
@@ -111,8 +111,12 @@ strike d s = payload (seriesWord d s 2)
 abbrev pub closing : List ℕ → ℕ → ℕ
 closing d s = payload (seriesWord d s 3)
 
+-- the short option adjustment (U3)
+abbrev pub adjustment : List ℕ → ℕ → ℕ
+adjustment d s = payload (seriesWord d s 4)
+
 abbrev pub theoretical : List ℕ → ℕ → ℕ → ℕ
-theoretical d s k = payload (seriesWord d s (4 + k))
+theoretical d s k = payload (seriesWord d s (5 + k))
 
 -- ---- types
 

@@ -24,5 +24,6 @@ pub mod Mistakes
 pub mod Cases
 pub mod Refusals
 pub mod ManyFigures
+pub mod AdjustmentFigures
 pub mod Ascii
 pub mod Texts

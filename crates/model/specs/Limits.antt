@@ -1,5 +1,5 @@
 -- The limits of counts and fields, each once, and the sizes that they leave to sums. Amounts are ten-thousandths of a euro.
-use Prim.Native.Nat.{ℕ, _+_, _*_, _/_}
+use Prim.Native.Nat.{ℕ, _+_, _-_, _*_, _/_}
 
 -- a price or a rate
 abbrev pub priceLimit : ℕ
@@ -49,6 +49,13 @@ wholeOffset = 100
 -- the points D5 .. D1, U1 .. U5
 abbrev pub pointCount : ℕ
 pointCount = 10
+
+-- the first of them and the last
+abbrev pub downside5 : ℕ
+downside5 = 0
+
+abbrev pub upside5 : ℕ
+upside5 = pointCount - 1
 
 -- ---- what a record adds at most: to a sum of net × multiplier × price, to a spread, to an MTM, to a margin
 

@@ -17,7 +17,7 @@ use Rattle.model.specs.Report.{longestReport}
 
 -- ---- an accepted day file and batch
 
--- a future, a call and a share of one class; words 1 to 20 are the class, then 14 words a series
+-- a future, a call and a share of one class; words 1 to 20 are the class, then 15 words a series
 abbrev day : List ℕ
 day =
     dayFile 1 3
@@ -149,7 +149,7 @@ unfolding refusals everything
 refusals-agree = refl
 
 -- the longest forms in words: rows 1 and 2 take so many and no more, and a report's memory needs no more
-pub longest-day : (l : List ℕ) → row1 l ≡ ltb 0 (length l % 4) || ltb (4 * 4865) (length l)
+pub longest-day : (l : List ℕ) → row1 l ≡ ltb 0 (length l % 4) || ltb (4 * 5121) (length l)
 unfolding row1
 longest-day l = refl
 

@@ -5,6 +5,7 @@ pub mod Classes
 pub mod Spread
 pub mod Mtm
 pub mod Premium
+pub mod Prices
 pub mod Points
 pub mod Additional
 pub mod Minimum
@@ -15,6 +16,7 @@ unfoldable pub use Classes.*
 unfoldable pub use Spread.*
 unfoldable pub use Mtm.*
 unfoldable pub use Premium.*
+unfoldable pub use Prices.*
 unfoldable pub use Points.*
 unfoldable pub use Additional.*
 unfoldable pub use Minimum.*

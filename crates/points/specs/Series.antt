@@ -11,13 +11,15 @@ use Rattle.numbers.specs.Abs.{neg-mul, natAbs-*, natAbs-*-le}
 use Rattle.numbers.specs.Sums.{sumWhere}
 use Rattle.numbers.specs.Table.{tabulate, getD-tabulate, tabulate-ext}
 use Rattle.model.specs.Limits.{worthLimit, runningLimit, contractsLimit, priceLimit, pointCount}
-use Rattle.model.specs.DayFile.{classCount, seriesCount, seriesType, multiplier, closing, theoretical, underlying, projected, isCall, isPut, isFuture}
+use Rattle.model.specs.DayFile.{classCount, seriesCount, seriesType, multiplier, closing, underlying, projected, isCall, isPut, isFuture}
 use Rattle.model.specs.Steps.Positions.{openNet, exercisedNet}
 use Rattle.model.specs.Steps.Classes.{ofClass, worth, signedByType}
 use Rattle.model.specs.Steps.Spread.{spreadQuantity, shortBefore, longBefore, nonSpread}
+use Rattle.model.specs.Steps.Prices.{openPrice}
 use Rattle.model.specs.Steps.Points.{openChange, exercisedChange, countedNet, pointOf, classPoint}
 use Rattle.model.proofs.Accepted.{DayRows}
-use Rattle.model.proofs.Limits.{closing-limit, theoretical-limit, projected-limit}
+use Rattle.model.proofs.Limits.{closing-limit, projected-limit}
+use Rattle.model.proofs.Prices.{open-price-limit}
 use Rattle.model.proofs.Bounds.{by-type-abs, counted-bound, point-so-far}
 use Rattle.classes.specs.Tables.{entry, Given}
 use Rattle.classes.specs.Range.{Range, sum-start, sum-turn, sum-end}
@@ -36,7 +38,7 @@ by-type-mul t x y = by (isCall t) (isPut t)
 
 -- what a position adds: an open one, from the closing price on; an exercised or assigned one, from the underlying price on
 abbrev pub openAdded : List ℕ → ℕ → List ℤ → ℤ → List ℤ
-openAdded d s at net = added at (net *ℤ pos (multiplier d s)) (closing d s) (tabulate pointCount (theoretical d s))
+openAdded d s at net = added at (net *ℤ pos (multiplier d s)) (closing d s) (tabulate pointCount (openPrice d s net))
 
 abbrev pub exercisedAdded : List ℕ → ℕ → ℕ → List ℤ → ℤ → List ℤ
 exercisedAdded d c s at net = added at (signedByType (seriesType d s) (net *ℤ pos (multiplier d s))) (underlying d c) (tabulate pointCount (projected d c))
@@ -53,7 +55,7 @@ module _ (d : List ℕ) (s : ℕ) (net : ℤ) where
   no-contracts h = omega (arith, natAbs-*-le net (pos (multiplier d s)) 0 (multiplier d s) h (le-refl (multiplier d s)))
 
   pub open-none : (at : List ℤ) → natAbs net ≤ 0 → length at ≡ pointCount → at ≡ openAdded d s at net
-  open-none at h l = added-none (net *ℤ pos (multiplier d s)) at (closing d s) (tabulate pointCount (theoretical d s)) (no-contracts h) l
+  open-none at h l = added-none (net *ℤ pos (multiplier d s)) at (closing d s) (tabulate pointCount (openPrice d s net)) (no-contracts h) l
 
   pub exercised-none : (c : ℕ) (at : List ℤ) → natAbs net ≤ 0 → length at ≡ pointCount → at ≡ exercisedAdded d c s at net
   exercised-none c at h l =
@@ -74,11 +76,11 @@ module _ (d : List ℕ) (n : ℕ → ℤ) (k c s : ℕ) (at : List ℤ) where
       tabulate-ext pointCount _ (λ j. getD at j (pos 0) +ℤ pointOf d n k c j s)
       (λ j h.
       (λ i.
-      (getD-tabulate pointCount (addedAt at z (closing d s) (tabulate pointCount (theoretical d s))) j (pos 0) h
-      ∙ ap (λ (p : ℕ). getD at j (pos 0) +ℤ changeAmount z (closing d s) p) (getD-tabulate pointCount (theoretical d s) j 0 h)) i
+      (getD-tabulate pointCount (addedAt at z (closing d s) (tabulate pointCount (openPrice d s (countedNet d n k c s)))) j (pos 0) h
+      ∙ ap (λ (p : ℕ). getD at j (pos 0) +ℤ changeAmount z (closing d s) p) (getD-tabulate pointCount (openPrice d s (countedNet d n k c s)) j 0 h)) i
       +ℤ (ap (changeAmount (signedByType (seriesType d s) x) (underlying d c)) (getD-tabulate pointCount (projected d c) j 0 h)
       ∙ by-type-mul (seriesType d s) x (pos (projected d c j) -ℤ pos (underlying d c))) i)
-      ∙ +ℤ-assoc (getD at j (pos 0)) (worth d s (countedNet d n k c s) (openChange d s j)) (worth d s (exercisedNet n k s) (exercisedChange d c s j)))
+      ∙ +ℤ-assoc (getD at j (pos 0)) (worth d s (countedNet d n k c s) (openChange d s (countedNet d n k c s) j)) (worth d s (exercisedNet n k s) (exercisedChange d c s j)))
 
 -- ---- the net that counts
 
@@ -127,9 +129,9 @@ points-size d nets w k c m hk hc hm j h =
 -- ---- prices are within their limit
 
 module _ (d : List ℕ) (r : DayRows d) where
-  pub theoretical-prices-limit : (s : ℕ) → s < seriesCount d → (j : ℕ) → j < pointCount → getD (tabulate pointCount (theoretical d s)) j 0 ≤ priceLimit
-  theoretical-prices-limit s h j l =
-      rw (getD-tabulate pointCount (theoretical d s) j 0 l) (theoretical-limit d r s h j l)
+  pub open-prices-limit : (s : ℕ) → s < seriesCount d → (z : ℤ) (j : ℕ) → j < pointCount → getD (tabulate pointCount (openPrice d s z)) j 0 ≤ priceLimit
+  open-prices-limit s h z j l =
+      rw (getD-tabulate pointCount (openPrice d s z) j 0 l) (open-price-limit d r s h z j l)
 
   pub projected-prices-limit : (c : ℕ) → c < classCount d → (j : ℕ) → j < pointCount → getD (tabulate pointCount (projected d c)) j 0 ≤ priceLimit
   projected-prices-limit c h j l =
@@ -140,4 +142,4 @@ module _ (d : List ℕ) (r : DayRows d) where
       → ((j : ℕ) → j < pointCount → natAbs (getD at j (pos 0)) ≤ worthLimit)
       → (j : ℕ) → j < pointCount → natAbs (getD (openAdded d s at net) j (pos 0)) ≤ runningLimit
   opened-size s at net h q a =
-      added-size at (net *ℤ pos (multiplier d s)) (closing d s) (tabulate pointCount (theoretical d s)) (contracts-small d s net q) (closing-limit d r s h) (theoretical-prices-limit s h) a
+      added-size at (net *ℤ pos (multiplier d s)) (closing d s) (tabulate pointCount (openPrice d s net)) (contracts-small d s net q) (closing-limit d r s h) (open-prices-limit s h net) a

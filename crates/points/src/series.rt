@@ -5,9 +5,10 @@ ghost use Prim.Native.Nat.{ℕ, _*_, _≤_, _<_};
 ghost use lib.IntN.{pos, natAbs, _+ℤ_, _*ℤ_};
 ghost use lib.ListN.{getD};
 ghost use Rattle.numbers.specs.Table.{tabulate};
-ghost use Rattle.model.specs.DayFile.{classCount, seriesCount, seriesType, isFuture, multiplier, closing, theoretical, underlying, projected};
+ghost use Rattle.model.specs.DayFile.{classCount, seriesCount, seriesType, isFuture, multiplier, closing, underlying, projected};
 ghost use Rattle.model.specs.Steps.Classes.{signedByType};
 ghost use Rattle.model.specs.Steps.Spread.{spreadQuantity, shortBefore, longBefore};
+ghost use Rattle.model.specs.Steps.Prices.{openPrice};
 ghost use Rattle.model.specs.Steps.Points.{pointOf};
 ghost use Rattle.model.specs.Limits.{contractsLimit, runningLimit, worthLimit, pointCount};
 ghost use Rattle.classes.specs.Tables.{entry, Day, Given};
@@ -18,13 +19,13 @@ use accumulator::Position;
 use positions::position_amount;
 use spread::sides::Sides;
 
-// An open position moves from the closing price to the theoretical prices.
+// An open position moves from the closing price to its prices at the points.
 fn open_position(day: &[u32], s: usize, net: i64) -> Position
     requires { ⌜ Day (now day) ⌝ }
     requires { ⌜ (s < seriesCount (now day)) × (natAbs net * multiplier (now day) s ≤ contractsLimit) ⌝ }
-    ensures { λ r. ⌜ (r .contracts ≡ net *ℤ pos (multiplier (now (day .entry)) s)) × (r .base ≡ closing (now (day .entry)) s) × (r .prices ≡ tabulate pointCount (theoretical (now (day .entry)) s)) ⌝ }
+    ensures { λ r. ⌜ (r .contracts ≡ net *ℤ pos (multiplier (now (day .entry)) s)) × (r .base ≡ closing (now (day .entry)) s) × (r .prices ≡ tabulate pointCount (openPrice (now (day .entry)) s net)) ⌝ }
 {
-    let prices = prices::theoretical_prices(day, s);
+    let prices = prices::open_prices(day, s, net);
     Position {
         contracts: worth::contracts(day, s, net),
         base: day_file::closing(day, s),

@@ -5,6 +5,7 @@ ghost use lib.ListN.{length};
 ghost use Rattle.model.specs.DayFile.{classCount, classAt, seriesAt};
 ghost use Rattle.model.specs.DayChecks.{row15, row16, row17};
 ghost use Rattle.series_rows.specs.Presence.{presence};
+use day_file::adjustment;
 use day_file::class_count;
 use day_file::class_number;
 use day_file::expiry;
@@ -15,6 +16,7 @@ use day_file::series_type;
 use day_file::strike;
 use series_types::is_derivative;
 use series_types::is_future;
+use series_types::is_option;
 use series_types::is_security;
 
 // Class numbers have six bits.
@@ -59,7 +61,8 @@ pub fn out_of_order(day: &[u32], s: usize) -> bool
     !((before < key) | ((before == key) & (strike(day, s - 1) < strike(day, s))))
 }
 
-// Row 17 of series s: no type of 1–6; serial not 0 on types 1–3; strike not 0 on a future; strike or expiry not 0 on a security.
+// Row 17 of series s: no type of 1–6; serial not 0 on types 1–3; strike not 0 on a future; strike or expiry not 0 on a security;
+// adjustment not 0 on a series that is no option.
 pub fn bad_type(day: &[u32], s: usize) -> bool
     requires { ⌜ seriesAt (now day) (s + 1) ≤ length (now day) ⌝ }
     ensures { λ r. ⌜ r ≡ row17 (now (day .entry)) s ⌝ }
@@ -72,4 +75,5 @@ pub fn bad_type(day: &[u32], s: usize) -> bool
         | (derivative & (0 < serial(day, s)))
         | (is_future(t) & (0 < k))
         | (security & ((0 < k) | (0 < expiry(day, s))))
+        | (!is_option(t) & (0 < adjustment(day, s)))
 }

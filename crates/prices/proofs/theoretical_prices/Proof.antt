@@ -17,7 +17,7 @@ returns c =
     ∙ tabulate-ext pointCount _ (theoretical (a .day .now) (a .s))
     (λ k h.
     let n = c .before .class-count .result in
-    let e : dayWords n (a .s) + 4 + k ≡ seriesAt (a .day .now) (a .s) + (4 + k) = omega (arith, c .before .class-count .ensures) in
+    let e : dayWords n (a .s) + 5 + k ≡ seriesAt (a .day .now) (a .s) + (5 + k) = omega (arith, c .before .class-count .ensures) in
     ap (λ (i : ℕ). payload (getD (a .day .now) i 0)) e)
 
 pub theoretical-prices-spec : {M : Type 1} → statement M

@@ -3,7 +3,10 @@ use mathlib.Core.Path.{ap, _∙_}
 use lib.IntN.{pos, _*ℤ_}
 use mir.Facts.{toZ-ofZ}
 use Rattle.numbers.specs.Abs.{told}
+use Rattle.numbers.specs.Table.{tabulate}
 use Rattle.model.specs.DayFile.{multiplier}
+use Rattle.model.specs.Steps.Prices.{openPrice}
+use Rattle.model.specs.Limits.{pointCount}
 use Rattle.points.proofs.series.open_position.Statement.{statement}
 use Rattle.points.proofs.series.open_position.Tie as tie
 
@@ -16,7 +19,7 @@ returns c =
     let a = b .before .before .before in (
       told (b .contracts .ok) (b .contracts .ensures ∙ ap (λ z. z *ℤ pos (multiplier (a .args .day .now) (a .args .s))) (toZ-ofZ (a .fits .net))),
       c .closing .ensures,
-      b .before .theoretical-prices .ensures,
+      b .before .open-prices .ensures ∙ ap (λ z. tabulate pointCount (openPrice (a .args .day .now) (a .args .s) z)) (toZ-ofZ (a .fits .net)),
     )
 
 pub open-position-spec : {M : Type 1} → statement M

@@ -1,0 +1,49 @@
+-- Ten prices adjusted: one store in the theoretical ones.
+use mathlib.Core.Path.{_≡_, refl, ap}
+use mathlib.Core.Bool.{true, false}
+use mathlib.Core.List.{List}
+use Prim.Native.Nat.{ℕ, max, _<_}
+use native.Mathlib.Omega.{arith}
+use borrow.Author.Tests.{eq-eqb, ne-eqb}
+use lib.Dec.{eqb}
+use lib.IntN.{ℤ, pos}
+use lib.ListN.{getD, set}
+use lib.Signed.{ltZ}
+use Rattle.numbers.specs.Table.{tabulate, getD-tabulate, tabulate-ext, tabulate-set}
+use Rattle.model.specs.Limits.{pointCount, downside5, upside5}
+use Rattle.model.specs.DayFile.{seriesType, adjustment, theoretical, isCall, isPut}
+use Rattle.model.specs.Steps.Prices.{adjustedAt, shortPrice, openPrice}
+
+module _ (d : List ℕ) (s : ℕ) where
+  abbrev delivered : List ℕ
+  delivered = tabulate pointCount (theoretical d s)
+
+  -- the store
+  abbrev stored : ℕ → List ℕ
+  stored j = set delivered j (max (getD delivered j 0) (adjustment d s))
+
+  -- adjusted at j and at no other point
+  one : (j : ℕ) → j < pointCount → ((k : ℕ) → adjustedAt (seriesType d s) k ≡ eqb k j) → stored j ≡ tabulate pointCount (shortPrice d s)
+  unfolding shortPrice
+  one j h t =
+      tabulate-set pointCount (theoretical d s) (shortPrice d s) j _ h
+      (rw (t j, eq-eqb j j refl) (ap (λ (x : ℕ). max x (adjustment d s)) (getD-tabulate pointCount (theoretical d s) j 0 h)))
+      (λ i l n. rw (t i, ne-eqb i j n))
+
+  pub short-call : isCall (seriesType d s) ≡ true → stored upside5 ≡ tabulate pointCount (shortPrice d s)
+  short-call h = one upside5 (omega arith) (λ k. rw h)
+
+  pub short-put : isCall (seriesType d s) ≡ false → isPut (seriesType d s) ≡ true → stored downside5 ≡ tabulate pointCount (shortPrice d s)
+  short-put p q = one downside5 (omega arith) (λ k. rw (p, q))
+
+  pub short-other : isCall (seriesType d s) ≡ false → isPut (seriesType d s) ≡ false → delivered ≡ tabulate pointCount (shortPrice d s)
+  unfolding shortPrice
+  short-other p q = tabulate-ext pointCount _ _ (λ k l. rw (p, q))
+
+  pub open-short : (z : ℤ) → ltZ (pos 0) z ≡ true → tabulate pointCount (shortPrice d s) ≡ tabulate pointCount (openPrice d s z)
+  unfolding openPrice
+  open-short z h = tabulate-ext pointCount _ _ (λ k l. rw h)
+
+  pub open-other : (z : ℤ) → ltZ (pos 0) z ≡ false → delivered ≡ tabulate pointCount (openPrice d s z)
+  unfolding openPrice
+  open-other z h = tabulate-ext pointCount _ _ (λ k l. rw h)
