@@ -1,10 +1,10 @@
 //! The committed cases for the call over words: accounts with a memory's length, and what is printed for each.
 use crate::accounts::{accepted, account, all_lines, damage, extreme, Account, LARGEST, SMALL, TYPICAL};
-use crate::fields::{self, Class, Record, Series, CALL, EQUITY};
+use crate::fields::{self, Class, Record, Series, EQUITY};
 use crate::files::Made;
 use crate::reckoner::{reckon, text, to_bytes, words, Refusal};
 use crate::rng::Rng;
-use crate::samples::samples;
+use crate::samples::{calls, samples};
 use std::path::Path;
 
 pub struct Case {
@@ -43,19 +43,6 @@ pub fn with_offset(offset: u32) -> Account {
     fields::account(&[class(2, 3, 100), class(9, 28, offset)], &[series(2), series(9)], &records)
 }
 
-/// M5's call with this short option adjustment, so many long and short.
-pub fn with_adjustment(adjustment: u32, long: u32, short: u32) -> Account {
-    let series = Series {
-        series_type: CALL,
-        multiplier: 1_000,
-        closing: 1_700,
-        adjustment,
-        theoretical: [400, 590, 790, 1_030, 1_330, 2_060, 2_500, 2_990, 3_520, 4_090],
-        ..Series::default()
-    };
-    fields::account(&[Class::default()], &[series], &[Record { long, short, ..Record::default() }])
-}
-
 fn needed(a: &Account) -> Option<usize> {
     reckon(&a.day, &a.batch).ok().map(|report| words(&report).len())
 }
@@ -80,7 +67,7 @@ pub fn cases() -> Vec<Case> {
         add(a, LONGEST);
     }
     // the figures of U3 beside the sample: an adjustment below upside 5, and ten long
-    for a in [with_adjustment(4_000, 0, 10), with_adjustment(5_000, 10, 0)] {
+    for a in [calls(4_000, 0, 10), calls(5_000, 10, 0)] {
         add(a, LONGEST);
     }
     let mut rng = Rng::new(2021);

@@ -4,7 +4,7 @@ use crate::layout::{class_at, SERIES_WORDS};
 use crate::many::call_all;
 use crate::reading::read_report;
 use crate::reckoner::{call_bytes, text, to_bytes, to_words};
-use crate::requests::{cases, path};
+use crate::requests::{cases, numbers, path};
 use crate::vectors::{vectors, Vector};
 use std::fs;
 use std::path::PathBuf;
@@ -44,7 +44,7 @@ fn many_accounts() -> Made {
         let day = with_adjustments(&case.words("day"));
         let (mut results, mut memory) = (case.lent("results"), case.lent("memory"));
         let answer = call_all(&day, &case.words("batches"), &case.words("lengths"), &mut results, &mut memory);
-        let given = (answer.map_or_else(|r| (r.number, r.place), |n| (0, n)), results, memory);
+        let given = (numbers(answer), results, memory);
         let expected = (case.answer(), case.words("results_after"), case.memory_after());
         assert_eq!(given, expected, "{}: no case of the edition before", case.name);
         day.iter().map(|w| format!(" {w}")).collect::<String>()

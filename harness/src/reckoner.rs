@@ -287,7 +287,7 @@ pub struct Report {
     pub totals: [i128; 3],
 }
 
-/// The ten prices of a series for an open position: those delivered, but for a short option the adjustment may replace one.
+/// The ten prices of an open position: the theoretical ones, of which the adjustment may replace one for a short option.
 fn open_prices(one: &Series, net: i128) -> [i128; 10] {
     let mut prices = one.theoretical;
     match (one.series_type, net.signum()) {

@@ -1,5 +1,6 @@
 //! The cases of a request, ../vectors/U01.txt and so on: lines of a name and plain numbers, an empty line behind each case.
 use crate::files::top;
+use crate::reckoner::Refusal;
 use std::collections::BTreeMap;
 use std::fs;
 use std::path::{Path, PathBuf};
@@ -37,6 +38,11 @@ impl Case {
         assert_eq!(answer.len(), 2, "{}", self.name);
         (answer[0] as u32, answer[1] as usize)
     }
+}
+
+/// An answer as a case has it: 0 and the value, or the refusal's number and place.
+pub fn numbers(answer: Result<usize, Refusal>) -> (u32, usize) {
+    answer.map_or_else(|r| (r.number, r.place), |n| (0, n))
 }
 
 /// Where they stand, below the repository's top folder.

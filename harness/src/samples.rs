@@ -1,6 +1,5 @@
 //! The sample accounts, made from their fields.
 use crate::accounts::Account;
-use crate::cases::with_adjustment;
 use crate::fields::{account, expiry, Class, Record, Series, CALL, EQUITY, FUTURE, PUT};
 use crate::files::Made;
 use crate::reckoner::{reckon, text, to_bytes};
@@ -116,6 +115,19 @@ fn options() -> Account {
     account(&[first, second], &series, &records)
 }
 
+/// M5's call with this short option adjustment, so many long and short.
+pub fn calls(adjustment: u32, long: u32, short: u32) -> Account {
+    let series = Series {
+        series_type: CALL,
+        multiplier: 1_000,
+        closing: 1_700,
+        adjustment,
+        theoretical: [400, 590, 790, 1_030, 1_330, 2_060, 2_500, 2_990, 3_520, 4_090],
+        ..Series::default()
+    };
+    account(&[Class::default()], &[series], &[Record { long, short, ..Record::default() }])
+}
+
 /// M8: a net of 1,001 at multiplier 10,000, in the second record.
 fn refused() -> Account {
     let class = Class { group: 5, underlying: 10_000, option_rate: 1_000, ..Class::default() };
@@ -147,7 +159,7 @@ pub fn samples() -> Vec<Sample> {
         sample(
             "adjustment",
             "U3: M5's ten short calls with a short option adjustment of 0.50; at upside 5 they add 3,300, not 2,390.",
-            with_adjustment(5_000, 0, 10),
+            calls(5_000, 0, 10),
         ),
         sample("refused", "M8: net 1,000 at multiplier 10,000 passes, net 1,001 in record 1 is refused by row 30.", refused()),
     ]

@@ -1,9 +1,9 @@
 //! The scope's figures that are run, at the byte call.
 use harness::accounts::Account;
-use harness::cases::{with_adjustment, with_offset, with_records};
+use harness::cases::{with_offset, with_records};
 use harness::reading::read_report;
 use harness::reckoner::{reckon, text, to_bytes, to_words, Refusal, Report};
-use harness::samples::samples;
+use harness::samples::{calls, samples};
 use harness::unit;
 
 fn run(a: &Account) -> Result<Report, Refusal> {
@@ -51,12 +51,12 @@ fn m2_and_m5_premium_in_an_account() {
 
 #[test]
 fn m5_with_a_short_option_adjustment() {
-    let amounts = |adjustment, long, short| run(&with_adjustment(adjustment, long, short)).expect("accepted").lines[0].amounts;
+    let amounts = |adjustment, long, short| run(&calls(adjustment, long, short)).expect("accepted").lines[0].amounts;
     assert_eq!(amounts(5_000, 0, 10), [0, 0, 17_000_000, 33_000_000, 50_000_000, 0]);
     assert_eq!(amounts(4_000, 0, 10), [0, 0, 17_000_000, 23_900_000, 40_900_000, 0]);
     assert_eq!(amounts(5_000, 10, 0), [0, 0, -17_000_000, 13_000_000, 0, 4_000_000]);
-    assert!(run(&with_adjustment(500_000_000, 0, 10)).is_ok());
-    assert_eq!(run(&with_adjustment(500_000_001, 0, 10)), Err(Refusal { number: 12, place: 1 }));
+    assert!(run(&calls(500_000_000, 0, 10)).is_ok());
+    assert_eq!(run(&calls(500_000_001, 0, 10)), Err(Refusal { number: 12, place: 1 }));
 }
 
 #[test]

@@ -2,7 +2,7 @@
 use harness::accounts::{account, batch, damage, day_file, Account, Size, LARGEST, SMALL, TYPICAL};
 use harness::many::{call_all, joined, reports};
 use harness::reckoner::{call_bytes, reckon, to_bytes, to_words, words, Refusal};
-use harness::requests::cases;
+use harness::requests::{cases, numbers};
 use harness::rng::Rng;
 use harness::unit;
 use std::collections::BTreeMap;
@@ -276,7 +276,7 @@ fn agrees_with_the_vectors() {
         for call in [unit::call_all as Call, call_all as Call] {
             let (mut results, mut memory) = (case.lent("results"), case.lent("memory"));
             let answer = call(&day, &batches, &lengths, &mut results, &mut memory);
-            assert_eq!(answer.map_or_else(|r| (r.number, r.place), |n| (0, n)), case.answer(), "{}", case.name);
+            assert_eq!(numbers(answer), case.answer(), "{}", case.name);
             assert_eq!(results, case.words("results_after"), "{}", case.name);
             assert_eq!(memory, case.memory_after(), "{}", case.name);
         }

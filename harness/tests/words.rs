@@ -1,6 +1,6 @@
 //! The call over words, as one account of the call for many, against cases of an outside reckoner.
 use harness::reckoner::{call_words, to_bytes, to_words, Refusal};
-use harness::requests::cases;
+use harness::requests::{cases, numbers};
 use harness::unit;
 
 /// One account of the call for many is the call over words: its answer stands in the result list.
@@ -32,7 +32,7 @@ fn agrees_with_the_vectors() {
         for call in [unit_words as Call, unit_bytes as Call, call_words as Call] {
             let mut memory = case.lent("memory");
             let answer = call(&day, &batch, &mut memory);
-            assert_eq!(answer.map_or_else(|r| (r.number, r.place), |n| (0, n)), case.answer(), "{}", case.name);
+            assert_eq!(numbers(answer), case.answer(), "{}", case.name);
             assert_eq!(memory, case.memory_after(), "{}", case.name);
         }
     }

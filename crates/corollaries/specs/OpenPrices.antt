@@ -16,7 +16,7 @@ module _ (d : List ℕ) (s : ℕ) (z : ℤ) (k : ℕ) where
   pub never-lower : theoretical d s k ≤ openPrice d s z k
   never-lower = open-price-by d s z k (λ p. theoretical d s k ≤ p) (omega arith) (le-refl (theoretical d s k))
 
-  -- so adjustments of 0 leave every price as it was delivered
+  -- so adjustments of 0 leave every price the theoretical one
   pub low-adjustment : adjustment d s ≤ theoretical d s k → openPrice d s z k ≡ theoretical d s k
   low-adjustment h = open-price-by d s z k (λ p. p ≡ theoretical d s k) (omega arith) refl
 

@@ -4,7 +4,7 @@ use mathlib.Core.Path.{_≡_, refl}
 use mathlib.Core.List.{List, [], _∷_, _++_, map}
 use Prim.Native.Nat.{ℕ, _+_, _^_}
 use lib.IntN.{ℤ, pos}
-use lib.ListN.{set}
+use lib.ListN.{replicate, set}
 use Rattle.model.specs.Words.{word}
 use Rattle.model.specs.Accounts.{Figure, allComputed, allPublished, minus, ten, noRates, dayFile, classRecord, adjustedRecord, batchFile, positionRecord, lineOf, classPoints, answerNumbers, status}
 use Rattle.model.specs.DayFile.{dayWords}
@@ -106,7 +106,7 @@ adjustments =
           ∷ map pos (3900000 ∷ 7300000 ∷ 10400000 ∷ 13100000 ∷ 15000000 ∷ []);
     }
     -- assigned ones are never adjusted: projected prices of 0 add 0; nor do they make a long one short
-    ∷ record { computed = points (call 5000) tenAssigned ++ points (put 6000) tenAssigned; published = map pos (ten 0 ++ 0 ∷ (ten 0 ++ 0 ∷ [])) }
+    ∷ record { computed = points (call 5000) tenAssigned ++ points (put 6000) tenAssigned; published = map pos (replicate 22 0) }
     ∷ record {
       computed = points (call 5000) assignedAndLong;
       published =

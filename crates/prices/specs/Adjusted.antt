@@ -15,12 +15,13 @@ use Rattle.model.specs.DayFile.{seriesType, adjustment, theoretical, isCall, is
 use Rattle.model.specs.Steps.Prices.{adjustedAt, shortPrice, openPrice}
 
 module _ (d : List ℕ) (s : ℕ) where
-  abbrev delivered : List ℕ
-  delivered = tabulate pointCount (theoretical d s)
+  -- the ten theoretical prices
+  abbrev given : List ℕ
+  given = tabulate pointCount (theoretical d s)
 
-  -- the store
+  -- .. with the adjustment stored at j where it is larger
   abbrev stored : ℕ → List ℕ
-  stored j = set delivered j (max (getD delivered j 0) (adjustment d s))
+  stored j = set given j (max (getD given j 0) (adjustment d s))
 
   -- adjusted at j and at no other point
   one : (j : ℕ) → j < pointCount → ((k : ℕ) → adjustedAt (seriesType d s) k ≡ eqb k j) → stored j ≡ tabulate pointCount (shortPrice d s)
@@ -36,7 +37,7 @@ module _ (d : List ℕ) (s : ℕ) where
   pub short-put : isCall (seriesType d s) ≡ false → isPut (seriesType d s) ≡ true → stored downside5 ≡ tabulate pointCount (shortPrice d s)
   short-put p q = one downside5 (omega arith) (λ k. rw (p, q))
 
-  pub short-other : isCall (seriesType d s) ≡ false → isPut (seriesType d s) ≡ false → delivered ≡ tabulate pointCount (shortPrice d s)
+  pub short-other : isCall (seriesType d s) ≡ false → isPut (seriesType d s) ≡ false → given ≡ tabulate pointCount (shortPrice d s)
   unfolding shortPrice
   short-other p q = tabulate-ext pointCount _ _ (λ k l. rw (p, q))
 
@@ -44,6 +45,6 @@ module _ (d : List ℕ) (s : ℕ) where
   unfolding openPrice
   open-short z h = tabulate-ext pointCount _ _ (λ k l. rw h)
 
-  pub open-other : (z : ℤ) → ltZ (pos 0) z ≡ false → delivered ≡ tabulate pointCount (openPrice d s z)
+  pub open-other : (z : ℤ) → ltZ (pos 0) z ≡ false → given ≡ tabulate pointCount (openPrice d s z)
   unfolding openPrice
   open-other z h = tabulate-ext pointCount _ _ (λ k l. rw h)

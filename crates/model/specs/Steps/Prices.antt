@@ -16,6 +16,6 @@ adjustedAt t k = cond (isCall t) (eqb k upside5) (isPut t && eqb k downside5)
 unfoldable pub shortPrice : List ℕ → ℕ → ℕ → ℕ
 shortPrice d s k = cond (adjustedAt (seriesType d s) k) (max (theoretical d s k) (adjustment d s)) (theoretical d s k)
 
--- the price of an open position of net z at point k: as delivered unless the net is short
+-- the price of an open position of net z at point k: the theoretical price unless the net is short
 unfoldable pub openPrice : List ℕ → ℕ → ℤ → ℕ → ℕ
 openPrice d s z k = cond (ltZ (pos 0) z) (shortPrice d s k) (theoretical d s k)

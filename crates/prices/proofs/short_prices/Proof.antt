@@ -16,9 +16,9 @@ call-is c = sym (c .is-call .ensures ∙ ap isCall (c .before .series-type .ensu
 put-is : (c : tie.After-is-put) → isPut (let x = c .before .before .before .before .before .before .args in seriesType (x .day .now) (x .s)) ≡ c .is-put .result
 put-is c = sym (c .is-put .ensures ∙ ap isPut (c .before .before .before .series-type .ensures))
 
--- a store at j in what stands there
-stored : (j : ℕ) {p q : List ℕ} {a b : ℕ} → p ≡ q → a ≡ b → set p j (max (getD p j 0) a) ≡ set q j (max (getD q j 0) b)
-stored j e h = λ i. set (e i) j (max (getD (e i) j 0) (h i))
+-- the same store in the same prices
+same-store : (j : ℕ) {p q : List ℕ} {a b : ℕ} → p ≡ q → a ≡ b → set p j (max (getD p j 0) a) ≡ set q j (max (getD q j 0) b)
+same-store j e h = λ i. set (e i) j (max (getD (e i) j 0) (h i))
 
 returns : tie.Need-returns
 returns c =
@@ -26,7 +26,7 @@ returns c =
     let p = i .before .before .before in
     let x = p .before .before .args in
     c .adjusted .ensures
-    ∙ stored upside5 (p .theoretical-prices .ensures) (c .before .adjustment .ensures)
+    ∙ same-store upside5 (p .theoretical-prices .ensures) (c .before .adjustment .ensures)
     ∙ short-call (x .day .now) (x .s) (call-is (i .before) ∙ i .if1 .taken)
 
 returns-2 : tie.Need-returns-2
@@ -36,7 +36,7 @@ returns-2 c =
     let p = e .before .before .before in
     let x = p .before .before .args in
     c .adjusted2 .ensures
-    ∙ stored downside5 (p .theoretical-prices .ensures) (c .before .adjustment2 .ensures)
+    ∙ same-store downside5 (p .theoretical-prices .ensures) (c .before .adjustment2 .ensures)
     ∙ short-put (x .day .now) (x .s) (call-is (e .before) ∙ e .if1 .left) (put-is (i .before) ∙ i .if2 .taken)
 
 returns-3 : tie.Need-returns-3
