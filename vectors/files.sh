@@ -9,6 +9,11 @@ work=$(mktemp -d)
 trap 'rm -rf "$work"' EXIT
 failed=0
 
+# the longest forms in bytes, as the C header has them
+bytes() { sed -n "s/^#define MARS_$1_BYTES \([0-9]*\).*/\1/p" host/mars.h; }
+day=$(bytes DAY)
+batch=$(bytes BATCH)
+
 # NAME EXPECTED: what stands in $work is printed so, and each case begins with the two sample files
 check() {
     printed=$(cd "$work" && "$program")
@@ -33,14 +38,14 @@ printf x >>"$work/day.w32"
 check "a ragged day file" "REFUSED 1 0"
 printf x >>"$work/pos.w32"
 check "a ragged batch" "REFUSED 2 0"
-head -c 20488 /dev/zero >"$work/day.w32"
-check "a day file of 5,122 words" "REFUSED 1 0"
-head -c 20484 /dev/zero >"$work/day.w32"
-check "a day file of 5,121 words" "REFUSED 10 0"
-head -c 6152 /dev/zero >"$work/pos.w32"
-check "a batch of 1,538 words" "REFUSED 2 0"
-head -c 6148 /dev/zero >"$work/pos.w32"
-check "a batch of 1,537 words" "REFUSED 20 0"
+head -c $((day + 4)) /dev/zero >"$work/day.w32"
+check "a day file of a word more than the longest" "REFUSED 1 0"
+head -c "$day" /dev/zero >"$work/day.w32"
+check "a day file as long as the longest" "REFUSED 10 0"
+head -c $((batch + 4)) /dev/zero >"$work/pos.w32"
+check "a batch of a word more than the longest" "REFUSED 2 0"
+head -c "$batch" /dev/zero >"$work/pos.w32"
+check "a batch as long as the longest" "REFUSED 20 0"
 check "the sample" "$(cat crates/mars_report/stdout)"
 [ "$failed" = 0 ] || exit 1
 echo "files: as expected"

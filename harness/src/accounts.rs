@@ -1,6 +1,6 @@
 //! Random accounts, and accounts damaged so that each row of the table refuses some of them.
 use crate::fields::{self, Class, Record, Series, EQUITY};
-use crate::layout::{class_at, series_at, CLASS_WORDS, SERIES_WORDS};
+use crate::layout::{class_at, counts, series_at, CLASS_WORDS, SERIES_WORDS};
 use crate::reckoner::reckon;
 use crate::rng::Rng;
 
@@ -119,10 +119,6 @@ pub fn day_file(rng: &mut Rng, classes: usize, series: usize) -> Vec<u32> {
     out
 }
 
-fn counts(day: &[u32]) -> (usize, usize) {
-    ((day[0] & 127) as usize, (day[0] >> 7 & 511) as usize)
-}
-
 /// Word i of series s.
 fn series_word(day: &[u32], s: usize, i: usize) -> u32 {
     day[series_at(counts(day).0, s) + i]
@@ -130,6 +126,16 @@ fn series_word(day: &[u32], s: usize, i: usize) -> u32 {
 
 fn type_of(day: &[u32], s: usize) -> u32 {
     series_word(day, s, 0) >> 19 & 15
+}
+
+/// The day file with every adjustment 0, where its length follows from its header.
+pub fn without_adjustments(day: &[u32]) -> Vec<u32> {
+    let mut out = day.to_vec();
+    let (c, s) = counts(day);
+    if day.len() == series_at(c, s) {
+        (0..s).for_each(|s| out[series_at(c, s) + 4] = word(3, 0));
+    }
+    out
 }
 
 pub fn amount_words(negative: bool, size: u64) -> [u32; 3] {
@@ -382,9 +388,9 @@ pub fn damage(rng: &mut Rng, a: &mut Account) {
 
 /// Both lengths follow from their headers.
 fn whole(a: &Account) -> bool {
-    let (Some(&day), Some(&batch)) = (a.day.first(), a.batch.first()) else { return false };
-    let (c, s, p) = ((day & 127) as usize, (day >> 7 & 511) as usize, batch & 0x1fff_ffff);
-    a.day.len() == series_at(c, s) && a.batch.len() as u64 == 1 + 6 * u64::from(p)
+    let (c, s) = counts(&a.day);
+    let p = a.batch.first().map_or(0, |header| u64::from(header & 0x1fff_ffff));
+    a.day.len() == series_at(c, s) && a.batch.len() as u64 == 1 + 6 * p
 }
 
 fn flip(rng: &mut Rng, words: &mut [u32]) {

@@ -1,6 +1,6 @@
 //! Cases of the edition before, brought to this one: what the request changed in the files, and nothing else.
 use crate::files::{top, Made};
-use crate::layout::{class_at, SERIES_WORDS};
+use crate::layout::{class_at, counts, SERIES_WORDS};
 use crate::many::call_all;
 use crate::reading::read_report;
 use crate::reckoner::{call_bytes, text, to_bytes, to_words};
@@ -13,8 +13,7 @@ use std::path::PathBuf;
 /// taken for series too, so that a length that did not follow from its header still does not.
 pub fn with_adjustments(day: &[u32]) -> Vec<u32> {
     const BEFORE: usize = 4;
-    let classes = day.first().map_or(0, |header| (header & 127) as usize);
-    let (front, series) = day.split_at(class_at(classes).min(day.len()));
+    let (front, series) = day.split_at(class_at(counts(day).0).min(day.len()));
     let mut out = front.to_vec();
     for one in series.chunks(SERIES_WORDS - 1) {
         let (before, behind) = one.split_at(BEFORE.min(one.len()));

@@ -15,3 +15,8 @@ pub const fn class_at(c: usize) -> usize {
 pub const fn series_at(classes: usize, s: usize) -> usize {
     class_at(classes) + SERIES_WORDS * s
 }
+
+/// Classes and series by the header; none where there is no header.
+pub fn counts(day: &[u32]) -> (usize, usize) {
+    day.first().map_or((0, 0), |header| ((header & 127) as usize, (header >> 7 & 511) as usize))
+}

@@ -1,21 +1,17 @@
 //! The converter: a file of the edition before gets the words that the request added, and nothing else.
-use harness::accounts::{account, mixed, Account};
+use harness::accounts::{account, mixed, without_adjustments, Account};
 use harness::editions::with_adjustments;
-use harness::layout::{class_at, series_at, SERIES_WORDS};
+use harness::layout::{class_at, counts, SERIES_WORDS};
 use harness::reckoner::{reckon, Refusal};
 use harness::rng::Rng;
-
-fn counts(day: &[u32]) -> (usize, usize) {
-    ((day[0] & 127) as usize, (day[0] >> 7 & 511) as usize)
-}
 
 /// An account without adjustments, and its day file as the edition before had it.
 fn before(rng: &mut Rng, i: usize) -> (Account, Vec<u32>) {
     let mut a = account(rng, mixed(i));
-    let (c, s) = counts(&a.day);
-    (0..s).for_each(|s| a.day[series_at(c, s) + 4] = 3 << 29);
-    let mut day = a.day[..class_at(c)].to_vec();
-    for one in a.day[class_at(c)..].chunks(SERIES_WORDS) {
+    a.day = without_adjustments(&a.day);
+    let (classes, series) = a.day.split_at(class_at(counts(&a.day).0));
+    let mut day = classes.to_vec();
+    for one in series.chunks(SERIES_WORDS) {
         day.extend(&one[..4]);
         day.extend(&one[5..]);
     }

@@ -1,6 +1,6 @@
 //! Demand 3 at the byte call: the order of records never matters, and an edit of one group of one book stays there.
 use harness::accounts::{account, batch, mixed, Account};
-use harness::layout::{series_at, CLASS_WORDS};
+use harness::layout::{counts, series_at, CLASS_WORDS};
 use harness::reading::read_report;
 use harness::reckoner::{to_bytes, to_words, Line, Refusal, Report};
 use harness::rng::Rng;
@@ -57,7 +57,7 @@ fn reordered_records() {
 
 /// Book and group of a record: its bit 9, and the group of its series' class.
 fn place(day: &[u32], record: &[u32; 6]) -> (bool, u32) {
-    let classes = (day[0] & 127) as usize;
+    let classes = counts(day).0;
     let number = day[series_at(classes, (record[0] & 255) as usize)] >> 23 & 63;
     let class = day[1..].chunks(CLASS_WORDS).take(classes).find(|c| c[0] >> 5 & 63 == number).expect("class");
     (record[0] >> 9 & 1 == 1, class[0] & 31)

@@ -1,6 +1,8 @@
 //! The byte call against the reckoner: number, place and every byte of the memory.
-use harness::accounts::{accepted, account, all_lines, damage, extreme, mixed, utmost, Account, SMALL, TYPICAL};
-use harness::layout::{series_at, LONGEST_DAY};
+use harness::accounts::{
+    accepted, account, all_lines, damage, extreme, mixed, utmost, without_adjustments, Account, SMALL, TYPICAL,
+};
+use harness::layout::{counts, series_at, LONGEST_DAY};
 use harness::reading::read_report;
 use harness::reckoner::{call_bytes, reckon, text, to_bytes, to_words, words, Refusal};
 use harness::rng::Rng;
@@ -30,16 +32,6 @@ fn compare(day: &[u8], batch: &[u8], room: usize, fill: &mut Rng, case: &str) ->
     assert!(around == expected, "memory: {case}");
     assert!(day_at[shift..] == *day && batch_at[shift ^ 3..] == *batch, "inputs: {case}");
     ours
-}
-
-/// The day file with every adjustment 0, where its length follows from its header.
-fn without_adjustments(day: &[u32]) -> Vec<u32> {
-    let mut out = day.to_vec();
-    let (classes, series) = day.first().map_or((0, 0), |h| ((h & 127) as usize, (h >> 7 & 511) as usize));
-    if day.len() == series_at(classes, series) {
-        (0..series).for_each(|s| out[series_at(classes, s) + 4] = 3 << 29);
-    }
-    out
 }
 
 /// A memory's length: mostly enough, else about the length needed or any other.
@@ -102,7 +94,7 @@ fn random_and_damaged_accounts() {
         }
         if let Ok(n) = result {
             longest = longest.max(n);
-            let classes = (a.day[0] & 127) as usize;
+            let classes = counts(&a.day).0;
             for record in a.batch[1..].chunks(6) {
                 let series = series_at(classes, (record[0] & 255) as usize);
                 types.insert((a.day[series] >> 19 & 15, record[0] >> 8 & 1 == 1, record[0] >> 9 & 1 == 1));

@@ -131,7 +131,7 @@ points-size d nets w k c m hk hc hm j h =
 module _ (d : List ℕ) (r : DayRows d) where
   pub open-prices-limit : (s : ℕ) → s < seriesCount d → (z : ℤ) (j : ℕ) → j < pointCount → getD (tabulate pointCount (openPrice d s z)) j 0 ≤ priceLimit
   open-prices-limit s h z j l =
-      rw (getD-tabulate pointCount (openPrice d s z) j 0 l) (open-price-limit d r s h z j l)
+      rw (getD-tabulate pointCount (openPrice d s z) j 0 l) (open-price-limit d s j r h l z)
 
   pub projected-prices-limit : (c : ℕ) → c < classCount d → (j : ℕ) → j < pointCount → getD (tabulate pointCount (projected d c)) j 0 ≤ priceLimit
   projected-prices-limit c h j l =
