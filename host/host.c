@@ -36,7 +36,9 @@ static const char *refusal_text(uint32_t number) {
     case MARS_SERIES_TYPE: return "type of a series";
     case MARS_BATCH_HEADER: return "batch: header";
     case MARS_BATCH_LENGTH: return "batch: length";
-    case MARS_BATCH_WORD: return "batch: word of a record";
+    case MARS_BATCH_KIND: return "batch: word of a wrong kind";
+    case MARS_BATCH_RANGE: return "batch: spare bit or out of range";
+    case MARS_BATCH_MINUS_ZERO: return "batch: minus zero";
     case MARS_POSITION_SERIES: return "no such series";
     case MARS_POSITION_EXERCISE: return "exercise of a non-option";
     case MARS_POSITION_FAIL: return "fail of a non-security";
@@ -45,6 +47,25 @@ static const char *refusal_text(uint32_t number) {
     case MARS_SHORT_REPORT: return "report memory too short";
     default: return "unknown";
     }
+}
+
+static const char *field_text(enum mars_field field) {
+    switch (field) {
+    case MARS_KEY: return "key";
+    case MARS_LONG: return "long quantity";
+    case MARS_SHORT: return "short quantity";
+    case MARS_DVP_HIGH: return "DVP amount, first word";
+    case MARS_DVP_MIDDLE: return "DVP amount, second word";
+    case MARS_DVP_LOW: return "DVP amount, third word";
+    default: return "unknown";
+    }
+}
+
+static void print_refusal(uint32_t number, uint32_t place) {
+    printf("refused %" PRIu32 " at %" PRIu32 ": %s", number, place, refusal_text(number));
+    if (mars_names_word(number))
+        printf(", record %" PRIu32 ", %s", mars_batch_record(place), field_text(mars_batch_field(place)));
+    putchar('\n');
 }
 
 /* Ten-thousandths of a euro as euro, right-aligned in 22 columns. */
@@ -73,8 +94,7 @@ int main(int argc, char **argv) {
 
     uint64_t result = mars_report(day, day_length, batch, batch_length, report, sizeof report);
     if (mars_number(result) != MARS_REPORT) {
-        printf("refused %" PRIu32 " at %" PRIu32 ": %s\n", mars_number(result), mars_value(result),
-               refusal_text(mars_number(result)));
+        print_refusal(mars_number(result), mars_value(result));
         return 1;
     }
     printf("%-8s %5s %22s %22s\n", "book", "group", "margin EUR", "residual credit EUR");

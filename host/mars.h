@@ -36,7 +36,8 @@ extern "C" {
  * Result       mars_number is 0 for a report, and mars_value its length in 32-bit words (13 + 19 x lines). Its bytes are
  *              4 x that; bytes past them remain.
  *              Otherwise mars_number is the number of a refusal (enum mars_refusal) and mars_value its place: the first
- *              offending record from 0, or for MARS_SHORT_REPORT the words needed. The report memory is then unchanged.
+ *              offending record from 0, the index of the first offending word in the batch (mars_names_word), or of
+ *              MARS_SHORT_REPORT the words needed. The report memory is then unchanged.
  *
  * Threads      The call keeps no state. It may run in any threads at once as long as their report memories are distinct;
  *              inputs may be shared.
@@ -95,8 +96,8 @@ uint64_t mars_reports(const uint32_t *day, size_t day_len, const uint32_t *batch
 #define MARS_UNREADABLE 4294967295u
 uint64_t mars_read_text(const uint8_t *text, size_t text_len, int64_t *ordinary, int64_t *fail, int64_t *account);
 
-/* Refusals in the order in which they are tried, each over all records before the next; the last two by mars_reports alone,
- * before all others. */
+/* Refusals in the order in which they are tried, each over all records or words before the next; the last two by mars_reports
+ * alone, before all others. */
 enum mars_refusal {
     MARS_REPORT = 0,            /* no refusal: a report was written */
     MARS_DAY_BYTES_BAD = 1,     /* day file's length is no multiple of 4, or exceeds the longest form */
@@ -111,8 +112,10 @@ enum mars_refusal {
     MARS_SERIES_TYPE = 17,      /* type unknown, or serial, strike, expiry or adjustment not 0 where the type has none */
     MARS_BATCH_HEADER = 20,     /* batch header: no words, wrong kind, too many records */
     MARS_BATCH_LENGTH = 21,     /* batch's length does not follow from its header */
-    MARS_BATCH_WORD = 22,       /* wrong kind, spare bit, out of range, minus zero; place: record, here and below */
-    MARS_POSITION_SERIES = 23,  /* no such series in the day file */
+    MARS_BATCH_KIND = 22,       /* a word of a record: wrong kind; place: word, here and in the two below */
+    MARS_BATCH_RANGE = 27,      /* spare bit or out of range; of an amount its first word */
+    MARS_BATCH_MINUS_ZERO = 28, /* an amount of minus zero: its first word */
+    MARS_POSITION_SERIES = 23,  /* no such series in the day file; place: record, here and below */
     MARS_POSITION_EXERCISE = 24, /* exercised or assigned, and not an option */
     MARS_POSITION_FAIL = 25,    /* a fail, and not a security */
     MARS_POSITION_DVP = 26,     /* DVP amount not 0, and not a security */
@@ -121,6 +124,9 @@ enum mars_refusal {
     MARS_ACCOUNT_LENGTHS = 60,  /* more than 64 accounts, or lengths that do not add up to the words given */
     MARS_SHORT_RESULTS = 61     /* result list shorter than two numbers an account */
 };
+
+/* The words of a record of the batch, the last three its DVP amount. */
+enum mars_field { MARS_KEY = 0, MARS_LONG = 1, MARS_SHORT = 2, MARS_DVP_HIGH = 3, MARS_DVP_MIDDLE = 4, MARS_DVP_LOW = 5 };
 
 /* The amounts of a line, and the totals. */
 enum mars_amount {
@@ -137,6 +143,15 @@ enum mars_total { MARS_ORDINARY = 0, MARS_FAIL = 1, MARS_ACCOUNT = 2 };
 /* The two parts of a result. */
 static inline uint32_t mars_number(uint64_t result) { return (uint32_t)(result >> 32); }
 static inline uint32_t mars_value(uint64_t result) { return (uint32_t)(result & 0xffffffffu); }
+
+/* Whether the place of a refusal is the index of a word in the batch. */
+static inline int mars_names_word(uint32_t number) {
+    return number == MARS_BATCH_KIND || number == MARS_BATCH_RANGE || number == MARS_BATCH_MINUS_ZERO;
+}
+
+/* The record of such a word, from 0, and its field there. The index is never 0, the header's. */
+static inline uint32_t mars_batch_record(uint32_t index) { return (index - 1u) / 6u; }
+static inline enum mars_field mars_batch_field(uint32_t index) { return (enum mars_field)((index - 1u) % 6u); }
 
 /* A word of a report, by its place from 0. A report among uint32_t words is read through a pointer to its first byte. */
 static inline uint32_t mars_word(const uint8_t *report, size_t at) {

@@ -1,5 +1,5 @@
 /* Calls at the edges: unaligned and empty inputs, short memories, memories at the border of inaccessible pages, threads;
- * many accounts in one call; printed texts read back. */
+ * bad words of a batch by record and field; many accounts in one call; printed texts read back. */
 #define _DEFAULT_SOURCE
 #include "mars.h"
 
@@ -345,6 +345,36 @@ static void texts(void) {
     for (size_t i = 0; i < sizeof damaged / sizeof damaged[0]; i++) reads_refusal(damaged[i], MARS_UNREADABLE, 0);
 }
 
+/* The call with word `at` of the batch replaced must be refused so, and the refusal's place be that field of that record. */
+static void refuses_word(size_t at, uint32_t word, uint32_t number, uint32_t record, enum mars_field field) {
+    uint8_t *changed = exact(batch.bytes, batch.length);
+    for (size_t i = 0; i < 4; i++) changed[4 * at + i] = (uint8_t)(word >> 8 * i);
+    uint64_t result = guarded(day.bytes, day.length, changed, batch.length, MARS_REPORT_BYTES, "bad word");
+    check(mars_number(result) == number && mars_names_word(number), "bad word: number", at);
+    check(mars_batch_record(mars_value(result)) == record && mars_batch_field(mars_value(result)) == field, "bad word: place", at);
+    free(changed);
+}
+
+static void bad_words(void) {
+    for (size_t i = 1; i < batch.length / 4; i++) {
+        uint32_t word = mars_word(batch.bytes, i), record = (uint32_t)(i > 6);
+        refuses_word(i, word ^ 7u << 29, MARS_BATCH_KIND, record, (enum mars_field)(i - 6 * record - 1));
+    }
+    for (uint32_t r = 0; r < 2; r++) {
+        uint32_t at = 1 + 6 * r, high = mars_word(batch.bytes, at + MARS_DVP_HIGH);
+        refuses_word(at + MARS_KEY, mars_word(batch.bytes, at) | 1u << 10, MARS_BATCH_RANGE, r, MARS_KEY);
+        refuses_word(at + MARS_LONG, 4u << 29 | 10000001u, MARS_BATCH_RANGE, r, MARS_LONG);
+        refuses_word(at + MARS_SHORT, 4u << 29 | 10000001u, MARS_BATCH_RANGE, r, MARS_SHORT);
+        refuses_word(at + MARS_DVP_HIGH, high | 1u << 5, MARS_BATCH_RANGE, r, MARS_DVP_HIGH);
+        /* a middle word that makes the amount too large is told by the amount's first word */
+        refuses_word(at + MARS_DVP_MIDDLE, 6u << 29 | 0x1fffffffu, MARS_BATCH_RANGE, r, MARS_DVP_HIGH);
+    }
+    /* the first record's amount is negative and below 2^29: without its low word it is minus zero */
+    refuses_word(1 + MARS_DVP_LOW, 6u << 29, MARS_BATCH_MINUS_ZERO, 0, MARS_DVP_HIGH);
+    for (uint32_t number = 0; number < 100; number++)
+        check(mars_names_word(number) == (number == 22 || number == 27 || number == 28), "bad word: which rows", number);
+}
+
 /* The argument is the folder of the sample `fail`. */
 int main(int argc, char **argv) {
     if (argc != 2) {
@@ -359,6 +389,7 @@ int main(int argc, char **argv) {
     unaligned();
     memories();
     inputs();
+    bad_words();
     borders();
     threads();
     accounts();

@@ -362,19 +362,7 @@ pub fn damage(rng: &mut Rng, a: &mut Account) {
         19 if p > 0 => a.batch[record(rng)] ^= 1 << rng.within(0, 7),
         20 if p > 0 => a.batch[record(rng)] ^= 1 << 8,
         21 if p > 0 => a.batch[record(rng)] ^= 1 << 9,
-        22 if p > 0 => a.batch[record(rng)] |= 1 << rng.within(10, 28),
-        23 if p > 0 => a.batch[record(rng) + rng.within(1, 2) as usize] = word(4, rng.pick(&[10_000_000, 10_000_001])),
-        24 if p > 0 => {
-            let at = record(rng) + 3;
-            let (negative, size) =
-                rng.pick(&[(true, 0), (false, 5_000_000_000_000_001), (true, 5_000_000_000_000_000), (false, 7)]);
-            a.batch[at..at + 3].copy_from_slice(&amount_words(negative, size));
-        }
-        25 if p > 0 => a.batch[record(rng) + 3] |= 1 << rng.within(5, 27),
-        26 if p > 0 => {
-            let (at, kind) = (record(rng) + rng.below(6) as usize, rng.below(8) as u32);
-            a.batch[at] = a.batch[at] & 0x1fff_ffff | kind << 29;
-        }
+        way @ 22..=26 if p > 0 => damage_word(rng, &mut a.batch, way - 22),
         27 if c + s > 0 => {
             let (at, kind) = (1 + rng.below(a.day.len() as u64 - 1) as usize, rng.below(8) as u32);
             a.day[at] = a.day[at] & 0x1fff_ffff | kind << 29;
@@ -383,6 +371,28 @@ pub fn damage(rng: &mut Rng, a: &mut Account) {
         28 if rng.once_in(6) => a.day.clear(),
         29 if rng.once_in(6) => a.batch.clear(),
         _ => flip(rng, &mut a.batch),
+    }
+}
+
+/// The ways of `damage_word`.
+pub const WORD_WAYS: u64 = 5;
+
+/// Damages a word of some record, or an amount, in one of the ways that rows 22, 27 and 28 look for; some stay within the limits.
+pub fn damage_word(rng: &mut Rng, batch: &mut [u32], way: u64) {
+    let record = 1 + 6 * rng.below((batch.len() as u64 - 1) / 6) as usize;
+    match way {
+        0 => batch[record] |= 1 << rng.within(10, 28),
+        1 => batch[record + rng.within(1, 2) as usize] = word(4, rng.pick(&[10_000_000, 10_000_001])),
+        2 => {
+            let (negative, size) =
+                rng.pick(&[(true, 0), (false, 5_000_000_000_000_001), (true, 5_000_000_000_000_000), (false, 7)]);
+            batch[record + 3..record + 6].copy_from_slice(&amount_words(negative, size));
+        }
+        3 => batch[record + 3] |= 1 << rng.within(5, 27),
+        _ => {
+            let (at, kind) = (record + rng.below(6) as usize, rng.below(8) as u32);
+            batch[at] = batch[at] & 0x1fff_ffff | kind << 29;
+        }
     }
 }
 

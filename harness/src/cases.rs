@@ -4,7 +4,7 @@ use crate::fields::{self, Class, Record, Series, EQUITY};
 use crate::files::Made;
 use crate::reckoner::{reckon, text, to_bytes, words, Refusal};
 use crate::rng::Rng;
-use crate::samples::{calls, samples};
+use crate::samples::{calls, samples, with_words, MINUS_ZERO, TOO_MANY, WRONG_KIND};
 use std::path::Path;
 
 pub struct Case {
@@ -17,7 +17,7 @@ pub struct Case {
 pub const LONGEST: usize = 1115;
 
 /// The rows of the table that the call over words can meet with its memory long enough.
-pub const ROWS: [u32; 16] = [10, 11, 12, 13, 14, 15, 16, 17, 20, 21, 22, 23, 24, 25, 26, 30];
+pub const ROWS: [u32; 18] = [10, 11, 12, 13, 14, 15, 16, 17, 20, 21, 22, 27, 28, 23, 24, 25, 26, 30];
 
 /// One share, and so many records of it.
 pub fn with_records(records: usize) -> Account {
@@ -69,6 +69,10 @@ pub fn cases() -> Vec<Case> {
     // the figures of U3 beside the sample: an adjustment below upside 5, and ten long
     for a in [calls(4_000, 0, 10), calls(5_000, 10, 0)] {
         add(a, LONGEST);
+    }
+    // those of U4 beside the sample: with minus zero, that alone, and with a wrong kind
+    for words in [&[TOO_MANY, MINUS_ZERO][..], &[MINUS_ZERO], &[MINUS_ZERO, WRONG_KIND]] {
+        add(with_words(words), LONGEST);
     }
     let mut rng = Rng::new(2021);
     for _ in 0..16 {

@@ -108,22 +108,54 @@ fn amount(u: u32, v: u32, w: u32) -> i64 {
     }
 }
 
+/// A word of the record is refused by row 22, 27 or 28.
+fn bad_record(w: &[u32]) -> bool {
+    bad(w[0], 2, 1023)
+        || bad(w[1], 4, 10_000_000)
+        || bad(w[2], 4, 10_000_000)
+        || kind(w[3]) != 5
+        || kind(w[4]) != 6
+        || kind(w[5]) != 6
+        || bad_dvp(w)
+        || minus_zero(w)
+}
+
+fn dvp(w: &[u32]) -> i64 {
+    amount(w[3], w[4], w[5])
+}
+
+fn bad_dvp(w: &[u32]) -> bool {
+    payload(w[3]) >> 5 & 0x7f_ffff != 0 || dvp(w).abs() > 5_000_000_000_000_000
+}
+
+fn minus_zero(w: &[u32]) -> bool {
+    w[3] >> 28 & 1 == 1 && dvp(w) == 0
+}
+
+/// Rows 22, 27 and 28, from the first record that one of them refuses on.
+fn check_words(batch: &[u32], records: usize) -> Option<(u64, usize)> {
+    let record = |r: usize| &batch[1 + 6 * r..7 + 6 * r];
+    let word = |r: usize, j: usize| 1 + 6 * r + j;
+    let first = (0..records).find(|&r| bad_record(record(r)))?;
+    for r in first..records {
+        if let Some(j) = record(r).iter().zip([2, 4, 4, 5, 6, 6]).position(|(&w, k)| kind(w) != k) {
+            return Some((22, word(r, j)));
+        }
+    }
+    for r in first..records {
+        let w = record(r);
+        let out = [payload(w[0]) > 1023, payload(w[1]) > 10_000_000, payload(w[2]) > 10_000_000, bad_dvp(w)];
+        if let Some(j) = out.iter().position(|&b| b) {
+            return Some((27, word(r, j)));
+        }
+    }
+    (first..records).find(|&r| minus_zero(record(r))).map(|r| (28, word(r, 3)))
+}
+
 fn check_batch(day: &Day, batch: &[u32], records: usize) -> Option<(u64, usize)> {
     let record = |r: usize| &batch[1 + 6 * r..7 + 6 * r];
-    for r in 0..records {
-        let w = record(r);
-        let wrong = bad(w[0], 2, 1023)
-            || bad(w[1], 4, 10_000_000)
-            || bad(w[2], 4, 10_000_000)
-            || kind(w[3]) != 5
-            || kind(w[4]) != 6
-            || kind(w[5]) != 6
-            || payload(w[3]) >> 5 & 0x7f_ffff != 0
-            || (w[3] >> 28 & 1 == 1 && amount(w[3], w[4], w[5]) == 0)
-            || amount(w[3], w[4], w[5]).abs() > 5_000_000_000_000_000;
-        if wrong {
-            return Some((22, r));
-        }
+    if let Some(refused) = check_words(batch, records) {
+        return Some(refused);
     }
     let place = |r: usize| (record(r)[0] & 255) as usize;
     if let Some(r) = (0..records).find(|&r| place(r) >= day.series) {
@@ -137,7 +169,7 @@ fn check_batch(day: &Day, batch: &[u32], records: usize) -> Option<(u64, usize)>
     if let Some(r) = (0..records).find(|&r| record(r)[0] >> 9 & 1 == 1 && !security(r)) {
         return Some((25, r));
     }
-    (0..records).find(|&r| amount(record(r)[3], record(r)[4], record(r)[5]) != 0 && !security(r)).map(|r| (26, r))
+    (0..records).find(|&r| dvp(record(r)) != 0 && !security(r)).map(|r| (26, r))
 }
 
 /// The position of a record, and what it adds to the position's net and DVP.

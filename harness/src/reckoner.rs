@@ -193,35 +193,53 @@ pub fn read_day(day: &[u32]) -> Result<DayFile, Refusal> {
     Ok(DayFile { classes, series })
 }
 
-fn batch_record(w: &[u32]) -> Option<Record> {
-    let kinds = [2, 4, 4, 5, 6, 6];
-    if w.iter().zip(kinds).any(|(&x, k)| kind(x) != k) {
-        return None;
-    }
-    let key = payload(w[0]);
-    if key >> 10 != 0 || payload(w[1]) > 10_000_000 || payload(w[2]) > 10_000_000 {
-        return None;
-    }
+/// The sign bit and the magnitude of a record's DVP amount.
+fn dvp(w: &[u32]) -> (bool, i128) {
     let first = payload(w[3]);
-    if first >> 5 & 0x7f_ffff != 0 {
-        return None;
+    (first >> 28 == 1, ((first & 31) as i128) << 58 | (payload(w[4]) as i128) << 29 | payload(w[5]) as i128)
+}
+
+/// Rows 22, 27 and 28, each over all words behind the header; the place is the word's index in the batch.
+pub fn check_words(batch: &[u32]) -> Result<(), Refusal> {
+    let kinds = [2, 4, 4, 5, 6, 6];
+    if let Some(i) = (1..batch.len()).find(|&i| kind(batch[i]) != kinds[(i - 1) % 6]) {
+        return refuse(22, i);
     }
-    let size = ((first & 31) as i128) << 58 | (payload(w[4]) as i128) << 29 | payload(w[5]) as i128;
-    let negative = first >> 28 == 1;
-    if (negative && size == 0) || size > 5_000_000_000_000_000 {
-        return None;
+    let records = || batch[1..].chunks(6).zip((1..).step_by(6));
+    for (w, at) in records() {
+        let spare = payload(w[3]) >> 5 & 0x7f_ffff != 0;
+        let key = payload(w[0]) >> 10 != 0;
+        let [long, short] = [w[1], w[2]].map(|q| payload(q) > 10_000_000);
+        let amount = spare || dvp(w).1 > 5_000_000_000_000_000;
+        if let Some(j) = [key, long, short, amount].iter().position(|&bad| bad) {
+            return refuse(27, at + j);
+        }
     }
-    Some(Record {
+    match records().find(|(w, _)| dvp(w) == (true, 0)) {
+        Some((_, at)) => refuse(28, at + 3),
+        None => Ok(()),
+    }
+}
+
+/// The first record with a word that one of them refuses: each record by itself, behind a header of its own.
+pub fn first_bad_record(batch: &[u32]) -> Option<usize> {
+    batch.get(1..)?.chunks_exact(6).position(|w| check_words(&[&[1 << 29 | 1], w].concat()).is_err())
+}
+
+fn batch_record(w: &[u32]) -> Record {
+    let key = payload(w[0]);
+    let (negative, size) = dvp(w);
+    Record {
         place: (key & 255) as usize,
         exercised: key >> 8 & 1 == 1,
         fail: key >> 9 == 1,
         long: payload(w[1]) as i128,
         short: payload(w[2]) as i128,
         dvp: if negative { -size } else { size },
-    })
+    }
 }
 
-/// Rows 20 to 26.
+/// Rows 20 to 28.
 pub fn read_batch(day: &DayFile, batch: &[u32]) -> Result<Vec<Record>, Refusal> {
     let Some(&header) = batch.first() else { return refuse(20, 0) };
     let p = payload(header) as usize;
@@ -231,13 +249,8 @@ pub fn read_batch(day: &DayFile, batch: &[u32]) -> Result<Vec<Record>, Refusal> 
     if batch.len() != 1 + 6 * p {
         return refuse(21, 0);
     }
-    let mut records = Vec::new();
-    for (i, w) in batch[1..].chunks(6).enumerate() {
-        match batch_record(w) {
-            Some(record) => records.push(record),
-            None => return refuse(22, i),
-        }
-    }
+    check_words(batch)?;
+    let records: Vec<Record> = batch[1..].chunks(6).map(batch_record).collect();
     if let Some(i) = records.iter().position(|r| r.place >= day.series.len()) {
         return refuse(23, i);
     }

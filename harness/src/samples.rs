@@ -21,13 +21,30 @@ fn moved(price: u32, per_mille: [i64; 10]) -> [u32; 10] {
 const SHARE_MOVES: [i64; 10] = [-100, -80, -60, -40, -20, 20, 40, 60, 80, 100];
 const INDEX_MOVES: [i64; 10] = [-75, -60, -45, -30, -15, 15, 30, 45, 60, 75];
 
-/// M3: one equity and one record.
-fn share() -> Account {
+/// M3's equity with these records.
+fn shares(records: &[Record]) -> Account {
     let class = Class { group: 3, equity_rate: EURO, ..Class::default() };
     let theoretical = moved(40 * EURO, SHARE_MOVES);
     let series = Series { series_type: EQUITY, multiplier: 1, closing: 40 * EURO, theoretical, ..Series::default() };
-    account(&[class], &[series], &[Record { long: 200, dvp: -81_500_000, ..Record::default() }])
+    account(&[class], &[series], records)
 }
+
+/// M3: one equity and one record.
+fn share() -> Account {
+    shares(&[Record { long: 200, dvp: -81_500_000, ..Record::default() }])
+}
+
+/// 200 of M3's shares in each of two records; words of the batch are then replaced, each by its index.
+pub fn with_words(words: &[(usize, u32)]) -> Account {
+    let mut out = shares(&[Record { long: 200, ..Record::default() }; 2]);
+    words.iter().for_each(|&(at, w)| out.batch[at] = w);
+    out
+}
+
+/// Words of U4's figures: in record 1 a long quantity above the limit, in record 0 an amount of minus zero, in record 1 a last word of kind 5.
+pub const TOO_MANY: (usize, u32) = (8, 4 << 29 | 10_000_001);
+pub const MINUS_ZERO: (usize, u32) = (4, 5 << 29 | 1 << 28);
+pub const WRONG_KIND: (usize, u32) = (12, 5 << 29);
 
 fn fail() -> Account {
     let class = Class { group: 3, underlying: 125_000, equity_rate: 2_500, offset: 85, ..Class::default() };
@@ -161,6 +178,11 @@ pub fn samples() -> Vec<Sample> {
             "U3: M5's ten short calls with a short option adjustment of 0.50; at upside 5 they add 3,300, not 2,390.",
             calls(5_000, 0, 10),
         ),
+        sample(
+            "word",
+            "U4: 200 shares in record 0, 10,000,001 in record 1: word 8 of the batch, its long quantity, is refused by row 27.",
+            with_words(&[TOO_MANY]),
+        ),
         sample("refused", "M8: net 1,000 at multiplier 10,000 passes, net 1,001 in record 1 is refused by row 30.", refused()),
     ]
 }
@@ -188,8 +210,12 @@ fn host_text(a: &Account) -> String {
     let report = match reckon(&a.day, &a.batch) {
         Ok(report) => report,
         Err(r) => {
-            assert_eq!(r.number, 30);
-            return format!("refused {} at {}: net position above the limit\nstatus 1\n", r.number, r.place);
+            let about = match (r.number, r.place) {
+                (27, 8) => "batch: spare bit or out of range, record 1, long quantity",
+                (30, _) => "net position above the limit",
+                other => panic!("no sample is refused by {other:?}"),
+            };
+            return format!("refused {} at {}: {about}\nstatus 1\n", r.number, r.place);
         }
     };
     let mut out = format!("{:<8} {:>5} {:>22} {:>22}\n", "book", "group", "margin EUR", "residual credit EUR");

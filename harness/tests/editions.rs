@@ -1,51 +1,35 @@
-//! The converter: a file of the edition before gets the words that the request added, and nothing else.
-use harness::accounts::{account, mixed, without_adjustments, Account};
-use harness::editions::with_adjustments;
-use harness::layout::{class_at, counts, SERIES_WORDS};
-use harness::reckoner::{reckon, Refusal};
+//! The converter: an answer of the edition before becomes the one of this edition, and none of this edition passes for one of it.
+use harness::accounts::{account, damage, mixed};
+use harness::editions::converted;
+use harness::reckoner::{call_words, first_bad_record};
+use harness::requests::numbers;
 use harness::rng::Rng;
+use std::collections::BTreeMap;
 
-/// An account without adjustments, and its day file as the edition before had it.
-fn before(rng: &mut Rng, i: usize) -> (Account, Vec<u32>) {
-    let mut a = account(rng, mixed(i));
-    a.day = without_adjustments(&a.day);
-    let (classes, series) = a.day.split_at(class_at(counts(&a.day).0));
-    let mut day = classes.to_vec();
-    for one in series.chunks(SERIES_WORDS) {
-        day.extend(&one[..4]);
-        day.extend(&one[5..]);
+/// The answer as the edition before gave it: 22 and the first record with a bad word.
+fn before(batch: &[u32], now: (u32, usize)) -> (u32, usize) {
+    match now.0 {
+        22 | 27 | 28 => (22, first_bad_record(batch).expect("a bad record")),
+        _ => now,
     }
-    (a, day)
 }
 
 #[test]
-fn adjustments_of_zero() {
-    let mut rng = Rng::new(91);
-    let mut refused = 0;
-    for i in 0..400 {
-        let (a, day) = before(&mut rng, i);
-        let (c, s) = counts(&day);
-        assert_eq!(day.len(), 1 + 20 * c + 14 * s, "case {i}");
-        assert_eq!(with_adjustments(&day), a.day, "case {i}");
-        if s > 0 {
-            // a file that was not converted never passes for one of this edition
-            assert_eq!(reckon(&day, &a.batch), Err(Refusal { number: 11, place: 0 }), "case {i}");
-            refused += 1;
+fn answers_become_those_of_this_edition() {
+    let mut rng = Rng::new(93);
+    let mut numbers_met: BTreeMap<u32, usize> = BTreeMap::new();
+    for i in 0..20_000 {
+        let mut a = account(&mut rng, mixed(i));
+        for _ in 0..i % 3 {
+            damage(&mut rng, &mut a);
         }
-    }
-    assert!(refused > 300);
-}
-
-#[test]
-fn wrong_lengths_stay_wrong() {
-    let mut rng = Rng::new(92);
-    for i in 1..4 {
-        let (a, day) = before(&mut rng, i);
-        for n in 0..day.len() + 40 {
-            let mut other = day.clone();
-            other.resize(n, 3 << 29);
-            assert_eq!(with_adjustments(&other).len() == a.day.len(), n == day.len(), "case {i}, {n} words");
+        let now = numbers(call_words(&a.day, &a.batch, &mut [0; 1115]));
+        let old = before(&a.batch, now);
+        assert_eq!(converted(old, &a.batch), Some(now), "case {i}");
+        if old != now {
+            assert_eq!(converted(now, &a.batch), None, "case {i}");
         }
+        *numbers_met.entry(now.0).or_default() += 1;
     }
-    assert_eq!(with_adjustments(&[]), []);
+    assert!([22, 27, 28].iter().all(|row| numbers_met[row] >= 50), "{numbers_met:?}");
 }

@@ -3,7 +3,7 @@ use harness::accounts::Account;
 use harness::cases::{with_offset, with_records};
 use harness::reading::read_report;
 use harness::reckoner::{reckon, text, to_bytes, to_words, Refusal, Report};
-use harness::samples::{calls, samples};
+use harness::samples::{calls, samples, with_words, MINUS_ZERO, TOO_MANY, WRONG_KIND};
 use harness::unit;
 
 fn run(a: &Account) -> Result<Report, Refusal> {
@@ -57,6 +57,17 @@ fn m5_with_a_short_option_adjustment() {
     assert_eq!(amounts(5_000, 10, 0), [0, 0, -17_000_000, 13_000_000, 0, 4_000_000]);
     assert!(run(&calls(500_000_000, 0, 10)).is_ok());
     assert_eq!(run(&calls(500_000_001, 0, 10)), Err(Refusal { number: 12, place: 1 }));
+}
+
+#[test]
+fn words_of_a_batch() {
+    let refused = |words: &[(usize, u32)]| run(&with_words(words)).expect_err("refused");
+    assert!(run(&with_words(&[])).is_ok());
+    assert_eq!(refused(&[TOO_MANY]), Refusal { number: 27, place: 8 });
+    assert_eq!(refused(&[TOO_MANY, MINUS_ZERO]), Refusal { number: 27, place: 8 });
+    assert_eq!(refused(&[MINUS_ZERO]), Refusal { number: 28, place: 4 });
+    assert_eq!(refused(&[MINUS_ZERO, WRONG_KIND]), Refusal { number: 22, place: 12 });
+    assert_eq!(refused(&[TOO_MANY, MINUS_ZERO, WRONG_KIND]), Refusal { number: 22, place: 12 });
 }
 
 #[test]

@@ -1,10 +1,11 @@
 //! The byte call against the reckoner: number, place and every byte of the memory.
 use harness::accounts::{
-    accepted, account, all_lines, damage, extreme, mixed, utmost, without_adjustments, Account, SMALL, TYPICAL,
+    accepted, account, all_lines, damage, damage_word, extreme, mixed, utmost, without_adjustments, Account, SMALL, TYPICAL,
+    WORD_WAYS,
 };
 use harness::layout::{counts, series_at, LONGEST_DAY};
 use harness::reading::read_report;
-use harness::reckoner::{call_bytes, reckon, text, to_bytes, to_words, words, Refusal};
+use harness::reckoner::{call_bytes, first_bad_record, reckon, text, to_bytes, to_words, words, Refusal};
 use harness::rng::Rng;
 use harness::unit;
 use harness::vectors::vectors;
@@ -103,7 +104,7 @@ fn random_and_damaged_accounts() {
     }
     println!("answers by number: {numbers:?}, by the adjustments: {adjusted:?}; longest report: {longest} words");
     let reached: Vec<u32> = numbers.keys().copied().collect();
-    let table = [0, 1, 2, 10, 11, 12, 13, 14, 15, 16, 17, 20, 21, 22, 23, 24, 25, 26, 30, 40];
+    let table = [0, 1, 2, 10, 11, 12, 13, 14, 15, 16, 17, 20, 21, 22, 23, 24, 25, 26, 27, 28, 30, 40];
     assert_eq!(reached, table);
     assert!(numbers[&0] >= 20_000);
     assert!(adjusted[&0] >= 500 && adjusted[&12] >= 50 && adjusted[&17] >= 50);
@@ -111,6 +112,32 @@ fn random_and_damaged_accounts() {
     let open = (1..=6).map(|t| (t, false, false));
     let all: BTreeSet<_> = open.chain([(2, true, false), (3, true, false)]).chain((4..=6).map(|t| (t, false, true))).collect();
     assert_eq!(types, all);
+}
+
+/// Some words of an accepted account's batch damaged. Rows 22 and 27 often name a word behind the first bad record, and 28 never does.
+#[test]
+fn bad_words_of_a_batch() {
+    let mut rng = Rng::new(4713);
+    let mut fill = Rng::new(4714);
+    let mut numbers: BTreeMap<u32, [usize; 2]> = BTreeMap::new();
+    for i in 0..600 {
+        let a = accepted(&mut rng, if i % 10 == 0 { TYPICAL } else { SMALL });
+        for n in 0..20 {
+            let mut batch = a.batch.clone();
+            for _ in 0..1 + n % 4 {
+                let way = rng.below(WORD_WAYS);
+                damage_word(&mut rng, &mut batch, way);
+            }
+            let result = compare(&to_bytes(&a.day), &to_bytes(&batch), 4460, &mut fill, &format!("account {i}, batch {n}"));
+            if let Err(r @ Refusal { number: 22 | 27 | 28, .. }) = result {
+                let first = first_bad_record(&batch).expect("a bad record");
+                numbers.entry(r.number).or_default()[usize::from((r.place - 1) / 6 > first)] += 1;
+            }
+        }
+    }
+    println!("by number, in the first bad record and behind it: {numbers:?}");
+    let [kind, range, zero] = [22, 27, 28].map(|row| numbers[&row]);
+    assert!(kind.iter().chain(&range).all(|&n| n >= 200) && zero[0] >= 200 && zero[1] == 0);
 }
 
 #[test]

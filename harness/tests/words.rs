@@ -26,7 +26,7 @@ fn unit_bytes(day: &[u32], batch: &[u32], memory: &mut [u32]) -> Result<usize, R
 
 #[test]
 fn agrees_with_the_vectors() {
-    for case in cases("U03", 67) {
+    for case in cases("U03", 67).into_iter().chain(cases("U04", 58)) {
         let (day, batch) = (case.words("day"), case.words("batch"));
         type Call = fn(&[u32], &[u32], &mut [u32]) -> Result<usize, Refusal>;
         for call in [unit_words as Call, unit_bytes as Call, call_words as Call] {

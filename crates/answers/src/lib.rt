@@ -4,6 +4,7 @@ ghost use Prim.Native.Nat.{_^_, _<_};
 ghost use Rattle.model.specs.Answers.{numberOf, placeOf, statusOf, valueOf, packed as packedOf};
 use model::AccountsFault;
 use model::Answer;
+use model::BatchWordsFault;
 use model::BytesFault;
 use model::Check;
 use model::ClassFault;
@@ -32,7 +33,11 @@ pub fn number(check: Check) -> u32
         },
         Check::BatchHeader(_, _) => 20,
         Check::BatchLength(_, _) => 21,
-        Check::BatchWords(_, _) => 22,
+        Check::BatchWords(f, _) => match f {
+            BatchWordsFault::WrongKind => 22,
+            BatchWordsFault::OutOfRange => 27,
+            BatchWordsFault::MinusZero => 28,
+        },
         Check::Positions(f, _) => match f {
             PositionFault::SeriesAbsent => 23,
             PositionFault::ExercisedNonOption => 24,

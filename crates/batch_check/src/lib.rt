@@ -1,4 +1,4 @@
-// The checks of a batch: rows 20 to 26, each over all records before the next.
+// The checks of a batch: rows 20 to 28, each over all records or words before the next.
 ghost use mathlib.Core.Path.{_≡_};
 ghost use Rattle.model.specs.BatchChecks.{row20, row21, batchForm, batchCheck};
 use batch::MOST_RECORDS;
@@ -7,10 +7,8 @@ use batch::batch_header;
 use batch::record_count;
 use model::BatchHeaderFault;
 use model::BatchLengthFault;
-use model::BatchWordsFault;
 use model::Check;
 use model::Verdict;
-use numbers::Found;
 use words::kind;
 
 // Row 20: no words, wrong kind, P too large.
@@ -27,7 +25,7 @@ fn bad_length(batch: &[u32]) -> bool
     batch.len() != 1 + RECORD_WORDS * record_count(batch)
 }
 
-// Rows 20 to 22, which need no day file.
+// Rows 20 and 21 and those of the words, which need no day file.
 fn check_form(batch: &[u32]) -> Verdict
     ensures { λ r. ⌜ r ≡ batchForm (now (batch .entry)) ⌝ }
 {
@@ -37,11 +35,7 @@ fn check_form(batch: &[u32]) -> Verdict
     if bad_length(batch) {
         return Verdict::Failed(Check::BatchLength(BatchLengthFault::BadBatchLength, 0));
     }
-    let count = record_count(batch);
-    if let Found::At(r) = batch_words::first_bad_record(batch, count) {
-        return Verdict::Failed(Check::BatchWords(BatchWordsFault::BadBatchWord, r));
-    }
-    Verdict::Passed
+    batch_words::check_words(batch)
 }
 
 // The first check that refuses the batch, for any words of it and of the day file.

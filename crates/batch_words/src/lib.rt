@@ -1,78 +1,143 @@
-// Row 22: the words of every record of a batch.
+// Rows 22, 27 and 28: the words of every record of a batch, each row over all words before the next.
 ghost use mathlib.Core.Path.{_≡_};
 ghost use Prim.Native.Nat.{_+_, _≤_, _<_};
 ghost use lib.ListN.{length};
+ghost use Rattle.numbers.specs.declared.Found.the-variants.{Nothing};
 ghost use Rattle.numbers.specs.Scan.{firstBad};
-ghost use Rattle.model.specs.Words.{badWord};
-ghost use Rattle.model.specs.Batch.{recordWord, batchWords};
-ghost use Rattle.model.specs.BatchChecks.{badRecordWord, badDvp, row22};
+ghost use Rattle.model.specs.Batch.{recordCount, recordWords, batchWords};
+ghost use Rattle.model.specs.BatchChecks.{wrongKind, dvpOutOfRange, outOfRange, minusZero, atWord, wordCheck};
+ghost use Rattle.record_words.specs.BadRecord.{badRecord};
+ghost use Rattle.batch_words.specs.Faults.{faultOf, wordRow};
+use batch::RECORD_WORDS;
 use batch::dvp_size;
+use batch::record_count;
 use batch::record_word;
+use model::BatchWordsFault;
+use model::Check;
+use model::Verdict;
 use numbers::Found;
-use words::PAYLOAD_LIMIT;
-use words::bad_word;
+use record_words::DVP_AMOUNT_LIMIT;
+use record_words::first_bad_record;
+use record_words::record_kind;
+use record_words::record_limit;
 use words::bits;
+use words::kind;
 use words::negative;
 use words::payload;
 
-// The largest payload of a record's key: bits 10 on are spare.
-const KEY_LIMIT: u32 = 1023;
-
-// The largest quantity.
-const QUANTITY_LIMIT: u32 = 10000000;
-
-// The largest magnitude of a DVP amount.
-const DVP_AMOUNT_LIMIT: u64 = 5000000000000000;
-
-// Word i of record r has not kind k, or a payload above its limit.
-fn bad_word_of(batch: &[u32], r: usize, i: usize, k: u32, limit: u32) -> bool
-    requires { ⌜ batchWords r + i < length (now batch) ⌝ }
-    ensures { λ x. ⌜ x ≡ badWord (recordWord (now (batch .entry)) r i) k limit ⌝ }
+// Row 22 of word j of record r.
+fn wrong_kind(batch: &[u32], r: usize, j: usize) -> bool
+    requires { ⌜ batchWords r + j < length (now batch) ⌝ }
+    ensures { λ x. ⌜ x ≡ wrongKind (now (batch .entry)) r j ⌝ }
 {
-    bad_word(record_word(batch, r, i), k, limit)
+    kind(record_word(batch, r, j)) != record_kind(j)
 }
 
-// The key, long and short quantity, and the DVP amount.
-fn bad_record_word(batch: &[u32], r: usize) -> bool
+// The DVP amount has a spare bit or is too large.
+fn dvp_out_of_range(batch: &[u32], r: usize) -> bool
     requires { ⌜ batchWords (r + 1) ≤ length (now batch) ⌝ }
-    ensures { λ x. ⌜ x ≡ badRecordWord (now (batch .entry)) r ⌝ }
+    ensures { λ x. ⌜ x ≡ dvpOutOfRange (now (batch .entry)) r ⌝ }
 {
-    bad_word_of(batch, r, 0, 2, KEY_LIMIT)
-        | bad_word_of(batch, r, 1, 4, QUANTITY_LIMIT)
-        | bad_word_of(batch, r, 2, 4, QUANTITY_LIMIT)
-        | bad_word_of(batch, r, 3, 5, PAYLOAD_LIMIT)
-        | bad_word_of(batch, r, 4, 6, PAYLOAD_LIMIT)
-        | bad_word_of(batch, r, 5, 6, PAYLOAD_LIMIT)
+    (0 < bits(payload(record_word(batch, r, 3)), 5, 23)) | (DVP_AMOUNT_LIMIT < dvp_size(batch, r))
 }
 
-// The DVP amount has a spare bit, is minus zero, or is too large.
-fn bad_dvp(batch: &[u32], r: usize) -> bool
+// Row 27: its payload, and at its first word the DVP amount.
+fn out_of_range(batch: &[u32], r: usize, j: usize) -> bool
+    requires { ⌜ j < recordWords ⌝ }
     requires { ⌜ batchWords (r + 1) ≤ length (now batch) ⌝ }
-    ensures { λ x. ⌜ x ≡ badDvp (now (batch .entry)) r ⌝ }
+    ensures { λ x. ⌜ x ≡ outOfRange (now (batch .entry)) r j ⌝ }
 {
-    let u = record_word(batch, r, 3);
-    let m = dvp_size(batch, r);
-    (0 < bits(payload(u), 5, 23)) | ((negative(u) == 1) & (m == 0)) | (DVP_AMOUNT_LIMIT < m)
+    (record_limit(j) < payload(record_word(batch, r, j))) | ((j == 3) & dvp_out_of_range(batch, r))
 }
 
-// Row 22 of record r: wrong kind, spare bit, out of range, minus zero.
-fn bad_record(batch: &[u32], r: usize) -> bool
+// Row 28: at its first word the DVP amount.
+fn minus_zero(batch: &[u32], r: usize, j: usize) -> bool
     requires { ⌜ batchWords (r + 1) ≤ length (now batch) ⌝ }
-    ensures { λ x. ⌜ x ≡ row22 (now (batch .entry)) r ⌝ }
+    ensures { λ x. ⌜ x ≡ minusZero (now (batch .entry)) r j ⌝ }
 {
-    bad_record_word(batch, r) | bad_dvp(batch, r)
+    (j == 3) & ((negative(record_word(batch, r, 3)) == 1) & (dvp_size(batch, r) == 0))
 }
 
-pub fn first_bad_record(batch: &[u32], count: usize) -> Found
-    requires { ⌜ batchWords count ≤ length (now batch) ⌝ }
-    ensures { λ x. ⌜ x ≡ firstBad (row22 (now (batch .entry))) count ⌝ }
+// The test of that row.
+fn has_fault(fault: BatchWordsFault, batch: &[u32], r: usize, j: usize) -> bool
+    requires { ⌜ j < recordWords ⌝ }
+    requires { ⌜ batchWords (r + 1) ≤ length (now batch) ⌝ }
+    ensures { λ x. ⌜ x ≡ faultOf fault (now (batch .entry)) r j ⌝ }
 {
-    let mut r = 0;
+    match fault {
+        BatchWordsFault::WrongKind => wrong_kind(batch, r, j),
+        BatchWordsFault::OutOfRange => out_of_range(batch, r, j),
+        BatchWordsFault::MinusZero => minus_zero(batch, r, j),
+    }
+}
+
+// The first word of record r that it refuses, by its place there.
+fn first_in_record(fault: BatchWordsFault, batch: &[u32], r: usize) -> Found
+    requires { ⌜ batchWords (r + 1) ≤ length (now batch) ⌝ }
+    ensures { λ x. ⌜ x ≡ firstBad (faultOf fault (now (batch .entry)) r) recordWords ⌝ }
+{
+    let mut j = 0;
+    while j < RECORD_WORDS {
+        if has_fault(fault, batch, r, j) {
+            return Found::At(j);
+        }
+        j += 1;
+    }
+    Found::Nothing
+}
+
+// The first word of so many records that it refuses, by its index in the batch; none of those before record `from`.
+fn first_in_batch(fault: BatchWordsFault, batch: &[u32], from: usize, count: usize) -> Found
+    requires { ⌜ (from ≤ count) × (batchWords count ≤ length (now batch)) ⌝ }
+    requires { ⌜ firstBad (atWord (faultOf fault (now batch))) (batchWords from) ≡ Nothing ⌝ }
+    ensures { λ x. ⌜ x ≡ firstBad (atWord (faultOf fault (now (batch .entry)))) (batchWords count) ⌝ }
+{
+    let mut r = from;
     while r < count {
-        if bad_record(batch, r) {
-            return Found::At(r);
+        if let Found::At(j) = first_in_record(fault, batch, r) {
+            return Found::At(1 + RECORD_WORDS * r + j);
         }
         r += 1;
     }
     Found::Nothing
+}
+
+// The row over the whole batch.
+fn check_row(fault: BatchWordsFault, batch: &[u32], from: usize) -> Verdict
+    requires { ⌜ (from ≤ recordCount (now batch)) × (length (now batch) ≡ batchWords (recordCount (now batch))) ⌝ }
+    requires { ⌜ firstBad (atWord (faultOf fault (now batch))) (batchWords from) ≡ Nothing ⌝ }
+    ensures { λ x. ⌜ x ≡ wordRow fault (now (batch .entry)) ⌝ }
+{
+    let count = record_count(batch);
+    match first_in_batch(fault, batch, from, count) {
+        Found::At(i) => Verdict::Failed(Check::BatchWords(fault, i)),
+        Found::Nothing => Verdict::Passed,
+    }
+}
+
+// The three rows, where no record before `from` is bad.
+fn check_rows(batch: &[u32], from: usize) -> Verdict
+    requires { ⌜ (from ≤ recordCount (now batch)) × (length (now batch) ≡ batchWords (recordCount (now batch))) ⌝ }
+    requires { ⌜ firstBad (badRecord (now batch)) from ≡ Nothing ⌝ }
+    ensures { λ x. ⌜ x ≡ wordCheck (now (batch .entry)) ⌝ }
+{
+    if let Verdict::Failed(k) = check_row(BatchWordsFault::WrongKind, batch, from) {
+        return Verdict::Failed(k);
+    }
+    if let Verdict::Failed(k) = check_row(BatchWordsFault::OutOfRange, batch, from) {
+        return Verdict::Failed(k);
+    }
+    check_row(BatchWordsFault::MinusZero, batch, from)
+}
+
+// The same in one pass over the records where none is bad.
+pub fn check_words(batch: &[u32]) -> Verdict
+    requires { ⌜ length (now batch) ≡ batchWords (recordCount (now batch)) ⌝ }
+    ensures { λ x. ⌜ x ≡ wordCheck (now (batch .entry)) ⌝ }
+{
+    let count = record_count(batch);
+    match first_bad_record(batch, count) {
+        Found::At(r) => check_rows(batch, r),
+        Found::Nothing => Verdict::Passed,
+    }
 }

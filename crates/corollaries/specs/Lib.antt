@@ -9,6 +9,7 @@ pub mod RuledOut
 pub mod Corollaries
 pub mod Often
 pub mod Batches
+pub mod NamedWord
 pub mod Numbers
 pub mod RefusalNumbers
 pub mod CallsInTurn

@@ -6,6 +6,7 @@ use Rattle.model.specs.declared.Check.the-variants.{Bytes, DayHeader, DayLength
 use Rattle.model.specs.declared.BytesFault.the-variants.{DayFile, BatchFile}
 use Rattle.model.specs.declared.ClassFault.the-variants.{ClassOrder, OffsetDiffers}
 use Rattle.model.specs.declared.SeriesFault.the-variants.{ClassAbsent, SeriesOrder, BadType}
+use Rattle.model.specs.declared.BatchWordsFault.the-variants.{WrongKind, OutOfRange, MinusZero}
 use Rattle.model.specs.declared.PositionFault.the-variants.{SeriesAbsent, ExercisedNonOption, FailNonSecurity, DvpNonSecurity}
 use Rattle.model.specs.declared.AccountsFault.the-variants.{BadLengths, ShortResults}
 use Rattle.model.specs.Answers.{numberOf}
@@ -23,7 +24,9 @@ numbered (Series SeriesOrder p) = (omega arith, omega arith)
 numbered (Series BadType p) = (omega arith, omega arith)
 numbered (BatchHeader f p) = (omega arith, omega arith)
 numbered (BatchLength f p) = (omega arith, omega arith)
-numbered (BatchWords f p) = (omega arith, omega arith)
+numbered (BatchWords WrongKind p) = (omega arith, omega arith)
+numbered (BatchWords OutOfRange p) = (omega arith, omega arith)
+numbered (BatchWords MinusZero p) = (omega arith, omega arith)
 numbered (Positions SeriesAbsent p) = (omega arith, omega arith)
 numbered (Positions ExercisedNonOption p) = (omega arith, omega arith)
 numbered (Positions FailNonSecurity p) = (omega arith, omega arith)

@@ -11,8 +11,8 @@ use Rattle.model.specs.declared.Verdict.the-variants.{Passed}
 use Rattle.model.specs.Rows.{plainRow, foundRow, recordRow}
 use Rattle.model.specs.DayFile.{classCount, seriesCount}
 use Rattle.model.specs.DayChecks.{row10, row11, row12, row13, row14, row15, row16, row17, classCheck, seriesCheck, recordCheck, dayCheck}
-use Rattle.model.specs.Batch.{recordCount}
-use Rattle.model.specs.BatchChecks.{row20, row21, row22, row23, row24, row25, row26, batchForm, positionCheck, batchCheck}
+use Rattle.model.specs.Batch.{recordCount, batchWords}
+use Rattle.model.specs.BatchChecks.{row20, row21, row22, row27, row28, row23, row24, row25, row26, wordCheck, batchForm, positionCheck, batchCheck}
 use Rattle.model.specs.Netting.{row30, nettingCheck}
 use Rattle.model.specs.Calls.{verdict, Accepted}
 use Rattle.model.proofs.Verdicts.{_then_, failed-not, tried-passed, tried-pass}
@@ -48,7 +48,9 @@ pub record DayRows (d : List ℕ) : Type 0 where
 pub record BatchChecks (d b : List ℕ) : Type 0 where
   pub at20 : row20 b ≡ false
   pub at21 : row21 b ≡ false
-  pub at22 : (r : ℕ) → r < recordCount b → row22 b r ≡ false
+  pub at22 : (i : ℕ) → i < batchWords (recordCount b) → row22 b i ≡ false
+  pub at27 : (i : ℕ) → i < batchWords (recordCount b) → row27 b i ≡ false
+  pub at28 : (i : ℕ) → i < batchWords (recordCount b) → row28 b i ≡ false
   pub at23 : (r : ℕ) → r < recordCount b → row23 d b r ≡ false
   pub at24 : (r : ℕ) → r < recordCount b → row24 d b r ≡ false
   pub at25 : (r : ℕ) → r < recordCount b → row25 d b r ≡ false
@@ -78,15 +80,18 @@ day-checked d e =
 
 module _ (d b : List ℕ) where
   pub batch-checked : batchCheck d b ≡ Passed → BatchChecks d b
-  unfolding batchCheck batchForm positionCheck
+  unfolding batchCheck batchForm wordCheck positionCheck
   batch-checked e =
       let batch = tried-passed _ e in
       let form = tried-passed _ (batch .0) in
+      let words = tried-passed _ (form .1 .1 .0) in
       let positions = tried-passed _ (batch .1 .0) in
       record {
         at20 = plain-clear _ _ (form .0);
         at21 = plain-clear _ _ (form .1 .0);
-        at22 = clear _ _ _ (form .1 .1 .0);
+        at22 = clear _ _ _ (words .0);
+        at27 = clear _ _ _ (words .1 .0);
+        at28 = clear _ _ _ (words .1 .1 .0);
         at23 = clear _ _ _ (positions .0);
         at24 = clear _ _ _ (positions .1 .0);
         at25 = clear _ _ _ (positions .1 .1 .0);
@@ -111,11 +116,15 @@ module _ (d b : List ℕ) where
   all-passed p q r = tried-pass _ (p then q then r then tt)
 
   pub rows-accepted : dayCheck d ≡ Passed → BatchRows d b → Accepted d b
-  unfolding batchCheck batchForm positionCheck nettingCheck
+  unfolding batchCheck batchForm wordCheck positionCheck nettingCheck
   rows-accepted p r =
       all-passed p
       (tried-pass _
-      (tried-pass _ (plain-back _ _ (r .checks .at20) then plain-back _ _ (r .checks .at21) then clear-back _ _ _ (r .checks .at22) then tt)
+      (tried-pass _
+      (plain-back _ _ (r .checks .at20)
+      then plain-back _ _ (r .checks .at21)
+      then tried-pass _ (clear-back _ _ _ (r .checks .at22) then clear-back _ _ _ (r .checks .at27) then clear-back _ _ _ (r .checks .at28) then tt)
+      then tt)
       then tried-pass _ (clear-back _ _ _ (r .checks .at23) then clear-back _ _ _ (r .checks .at24) then clear-back _ _ _ (r .checks .at25) then clear-back _ _ _ (r .checks .at26) then tt)
       then tt))
       (clear-back _ _ _ (r .at30))

@@ -1,6 +1,7 @@
 pub mod WordsBack
 pub mod Accepted
 pub mod Agreement
+pub mod BatchWords
 pub mod Limits
 pub mod Lines
 pub mod Nets

@@ -12,16 +12,17 @@ use lib.ListN.{length}
 use Rattle.numbers.specs.Scan.{firstBad, hit, first-clear}
 use Rattle.numbers.specs.Lists.{nothing-hit}
 use Rattle.model.specs.Limits.{priceLimit, quantityLimit, dvpAmountLimit, positionLimit, mostRecords, groupCount, wholeOffset, pointCount}
-use Rattle.model.specs.Words.{kind, payload, payloadLimit, bits, badWord, negative}
+use Rattle.model.specs.Words.{kind, payload, payloadLimit, bits, badWord}
 use Rattle.model.specs.DayFile.{classCount, seriesCount, classWords, seriesWords, dayWords, classWord, seriesWord, group, underlying, spotRate, nonSpotRate, offset, projected, multiplier, strike, closing, adjustment, theoretical}
 use Rattle.model.specs.DayChecks.{badClassWord, badSeriesWord, badClass, badSeries, row11, row12}
-use Rattle.model.specs.Batch.{batchHeader, recordCount, batchWords, recordWord, key, place, long, short, dvpSize, dvpAmount}
-use Rattle.model.specs.BatchChecks.{keyLimit, badRecordWord, badDvp, row20, row21, row22, row23, batchForm}
+use Rattle.model.specs.Batch.{batchHeader, recordCount, recordWords, batchWords, recordWord, key, place, long, short, dvpSize, dvpAmount}
+use Rattle.model.specs.BatchChecks.{recordLimit, dvpOutOfRange, outOfRange, row20, row21, row27, row23, batchForm}
 use Rattle.model.specs.Netting.{net, row30}
 use Rattle.numbers.specs.Tests.{or-left, or-right}
 use Rattle.model.specs.declared.Verdict.the-variants.{Passed}
 use Rattle.model.proofs.Verdicts.{tried-passed}
 use Rattle.model.proofs.Accepted.{plain-clear, DayRows, BatchChecks, BatchRows}
+use Rattle.model.proofs.BatchWords.{words-clear}
 use Rattle.model.proofs.Sizes.{size-amount}
 
 -- a word that is not bad is within its limit
@@ -103,7 +104,7 @@ row21-length : (b : List ℕ) → row21 b ≡ false → length b ≡ batchWords 
 unfolding row21
 row21-length b e = eqb-true (length b) (batchWords (recordCount b)) (not-false (eqb (length b) (batchWords (recordCount b))) e)
 
--- a batch that passes rows 20 to 22 has the length of its records
+-- a batch that passes the rows that need no day file has the length of its records
 pub form-length : (b : List ℕ) → batchForm b ≡ Passed → length b ≡ batchWords (recordCount b)
 unfolding batchForm
 form-length b e = row21-length b (plain-clear _ _ (tried-passed _ e .1 .0))
@@ -117,34 +118,31 @@ module _ (d b : List ℕ) (r : BatchChecks d b) where
   batch-length = row21-length b (r .at21)
 
   module _ (q : ℕ) (h : q < recordCount b) where
-    abbrev bad : ℕ → ℕ → ℕ → Bool
-    bad i k l = badWord (recordWord b q i) k l
+    in-range : (j : ℕ) → j < recordWords → outOfRange b q j ≡ false
+    unfolding row27
+    in-range j l = words-clear (outOfRange b) (recordCount b) (r .at27) q j h l
 
-    -- key, long, short
-    quantities : (bad 0 2 keyLimit || bad 1 4 quantityLimit || bad 2 4 quantityLimit) ≡ false
-    unfolding row22 badRecordWord
-    quantities =
-        or-left (bad 0 2 keyLimit || bad 1 4 quantityLimit || bad 2 4 quantityLimit) (bad 3 5 payloadLimit)
-        (or-left (bad 0 2 keyLimit || bad 1 4 quantityLimit || bad 2 4 quantityLimit || bad 3 5 payloadLimit) (bad 4 6 payloadLimit)
-        (or-left (bad 0 2 keyLimit || bad 1 4 quantityLimit || bad 2 4 quantityLimit || bad 3 5 payloadLimit || bad 4 6 payloadLimit) (bad 5 6 payloadLimit)
-        (or-left (badRecordWord b q) (badDvp b q) (r .at22 q h))))
+    record-limit : (j : ℕ) → j < recordWords → payload (recordWord b q j) ≤ recordLimit j
+    unfolding outOfRange
+    record-limit j l =
+        ltb-false (recordLimit j) (payload (recordWord b q j)) (or-left (ltb (recordLimit j) (payload (recordWord b q j))) (eqb j 3 && dvpOutOfRange b q) (in-range j l))
 
     pub long-limit : long b q ≤ quantityLimit
-    long-limit = within (recordWord b q 1) 4 quantityLimit (or-right (bad 0 2 keyLimit) (bad 1 4 quantityLimit) (or-left (bad 0 2 keyLimit || bad 1 4 quantityLimit) (bad 2 4 quantityLimit) quantities))
+    long-limit = record-limit 1 (omega arith)
 
     pub short-limit : short b q ≤ quantityLimit
-    short-limit = within (recordWord b q 2) 4 quantityLimit (or-right (bad 0 2 keyLimit || bad 1 4 quantityLimit) (bad 2 4 quantityLimit) quantities)
+    short-limit = record-limit 2 (omega arith)
 
     pub place-limit : place b q < seriesCount d
     unfolding row23
     place-limit = leb-false (seriesCount d) (place b q) (r .at23 q h)
 
     dvp-size : dvpSize b q ≤ dvpAmountLimit
-    unfolding row22 badDvp
+    unfolding dvpOutOfRange outOfRange
     dvp-size =
         ltb-false dvpAmountLimit (dvpSize b q)
-        (or-right (ltb 0 (bits (payload (recordWord b q 3)) 5 23) || (eqb (negative (recordWord b q 3)) 1 && eqb (dvpSize b q) 0)) (ltb dvpAmountLimit (dvpSize b q))
-        (or-right (badRecordWord b q) (badDvp b q) (r .at22 q h)))
+        (or-right (ltb 0 (bits (payload (recordWord b q 3)) 5 23)) (ltb dvpAmountLimit (dvpSize b q))
+        (or-right (ltb payloadLimit (payload (recordWord b q 3))) (dvpOutOfRange b q) (in-range 3 (omega arith))))
 
     pub dvp-limit : natAbs (dvpAmount b q) ≤ dvpAmountLimit
     dvp-limit = rw (size-amount (recordWord b q 3) (recordWord b q 4) (recordWord b q 5)) dvp-size

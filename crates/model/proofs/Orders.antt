@@ -1,8 +1,9 @@
 -- The order of the records changes nothing.
-use mathlib.Core.Path.{_≡_, sym, ap, _∙_}
-use mathlib.Core.Bool.{Bool, false, not, _||_}
+use mathlib.Core.Path.{_≡_, refl, sym, ap, _∙_}
+use mathlib.Core.Bool.{Bool, false, not, _&&_, _||_}
 use mathlib.Core.List.{List, _∷_, Perm}
-use Prim.Native.Nat.{ℕ, _*_, _<_}
+use Prim.Native.Nat.{ℕ, zero, suc, _*_, _<_}
+use native.Mathlib.Omega.{arith}
 use lib.Dec.{eqb, ltb}
 use lib.IntN.{ℤ, natAbs}
 use lib.ListN.{length, getD}
@@ -11,13 +12,14 @@ use Rattle.model.specs.Limits.{positionLimit, mostRecords}
 use Rattle.numbers.specs.Lists.{any-perm, hit-any, nothing-hit}
 use Rattle.model.specs.Words.{kind, payload, bits}
 use Rattle.model.specs.DayFile.{multiplier}
-use Rattle.model.specs.Batch.{recordCount, batchWords}
-use Rattle.model.specs.BatchChecks.{row20, row21, badRecordWord, badDvp, row22, row23, row24, row25, row26}
+use Rattle.model.specs.Batch.{recordCount, recordWords, batchWords, recordWord}
+use Rattle.model.specs.BatchChecks.{row20, row21, recordKind, recordLimit, dvpOutOfRange, dvpMinusZero, wrongKind, outOfRange, minusZero, atWord, row22, row27, row28, row23, row24, row25, row26}
 use Rattle.model.specs.Netting.{net, dvp, row30}
 use Rattle.model.specs.Report.{reportWords, wordsNeeded}
 use Rattle.model.specs.Calls.{Accepted, answer, answerOf, roomAnswer, memoryAfter, written}
 use Rattle.model.specs.Locality.{recordAt, records, Reordered, Orders}
 use Rattle.model.proofs.Accepted.{BatchRows, day-passed, batch-rows, rows-accepted}
+use Rattle.model.proofs.BatchWords.{words-clear, words-back}
 use Rattle.model.proofs.Nets.{keyOf, net-order, dvp-order}
 
 -- a test of a record's words that fails at every record of the one fails at every record of the other
@@ -31,6 +33,27 @@ module _ (b₁ b₂ : List ℕ) (p : Perm (records b₁) (records b₂)) (t : Li
       ∙ sym (hit-any t (recordCount b₁) (recordAt b₁))
       ∙ ap hit (first-none (λ r. t (recordAt b₁ r)) (recordCount b₁) h)))
 
+-- a record by itself has its words
+own-word : (b : List ℕ) (r j : ℕ) → j < recordWords → recordWord (0 ∷ recordAt b r) 0 j ≡ recordWord b r j
+own-word b r zero h = refl
+own-word b r (suc zero) h = refl
+own-word b r (suc (suc zero)) h = refl
+own-word b r (suc (suc (suc zero))) h = refl
+own-word b r (suc (suc (suc (suc zero)))) h = refl
+own-word b r (suc (suc (suc (suc (suc zero))))) h = refl
+own-word b r (suc (suc (suc (suc (suc (suc j)))))) h = absurd (omega arith)
+
+-- the same of a test of word j of record r, at every word, where the test reads that record alone
+module _ (b₁ b₂ : List ℕ) (p : Perm (records b₁) (records b₂)) (t : List ℕ → ℕ → ℕ → Bool) where
+  words-carried : ((b : List ℕ) (r j : ℕ) → j < recordWords → t (0 ∷ recordAt b r) 0 j ≡ t b r j)
+      → ((i : ℕ) → i < batchWords (recordCount b₁) → atWord (t b₁) i ≡ false)
+      → (i : ℕ) → i < batchWords (recordCount b₂) → atWord (t b₂) i ≡ false
+  words-carried s h =
+      words-back (t b₂) (recordCount b₂)
+      (λ r j l q.
+      sym (s b₂ r j q)
+      ∙ carried b₁ b₂ p (λ w. t (0 ∷ w) 0 j) (λ r₁ l₁. s b₁ r₁ j q ∙ words-clear (t b₁) (recordCount b₁) h r₁ j l₁ q) r l)
+
 module _ (d b₁ b₂ : List ℕ) (o : Reordered b₁ b₂) where
   net-same : net b₁ ≡ net b₂
   net-same = net-order b₁ b₂ (o .same)
@@ -39,13 +62,15 @@ module _ (d b₁ b₂ : List ℕ) (o : Reordered b₁ b₂) where
   dvp-same = dvp-order b₁ b₂ (o .same)
 
   rows : BatchRows d b₁ → BatchRows d b₂
-  unfolding row20 row21 badRecordWord badDvp row22 row23 row24 row25 row26 row30
+  unfolding row20 row21 dvpOutOfRange dvpMinusZero wrongKind outOfRange minusZero row22 row27 row28 row23 row24 row25 row26 row30
   rows r =
       record {
         checks = record {
           at20 = sym (λ i. eqb (o .long i) 0 || not (eqb (kind (o .header i)) 1) || ltb mostRecords (payload (o .header i))) ∙ r .checks .at20;
           at21 = sym (λ i. not (eqb (o .long i) (batchWords (payload (o .header i))))) ∙ r .checks .at21;
-          at22 = carried b₁ b₂ (o .same) (λ w. row22 (0 ∷ w) 0) (r .checks .at22);
+          at22 = words-carried b₁ b₂ (o .same) wrongKind (λ b q j h. ap (λ w. not (eqb (kind w) (recordKind j))) (own-word b q j h)) (r .checks .at22);
+          at27 = words-carried b₁ b₂ (o .same) outOfRange (λ b q j h. ap (λ w. ltb (recordLimit j) (payload w) || (eqb j 3 && dvpOutOfRange b q)) (own-word b q j h)) (r .checks .at27);
+          at28 = words-carried b₁ b₂ (o .same) minusZero (λ b q j h. refl) (r .checks .at28);
           at23 = carried b₁ b₂ (o .same) (λ w. row23 d (0 ∷ w) 0) (r .checks .at23);
           at24 = carried b₁ b₂ (o .same) (λ w. row24 d (0 ∷ w) 0) (r .checks .at24);
           at25 = carried b₁ b₂ (o .same) (λ w. row25 d (0 ∷ w) 0) (r .checks .at25);

@@ -7,6 +7,7 @@ use Rattle.model.specs.declared.Check.the-variants.{Bytes, DayHeader, Da
 use Rattle.model.specs.declared.BytesFault.the-variants.{DayFile, BatchFile}
 use Rattle.model.specs.declared.ClassFault.the-variants.{ClassOrder, OffsetDiffers}
 use Rattle.model.specs.declared.SeriesFault.the-variants.{ClassAbsent, SeriesOrder, BadType}
+use Rattle.model.specs.declared.BatchWordsFault.the-variants.{WrongKind, OutOfRange, MinusZero}
 use Rattle.model.specs.declared.PositionFault.the-variants.{SeriesAbsent, ExercisedNonOption, FailNonSecurity, DvpNonSecurity}
 use Rattle.model.specs.declared.AccountsFault.the-variants.{BadLengths, ShortResults}
 
@@ -23,7 +24,9 @@ numberOf (Series SeriesOrder p) = 16
 numberOf (Series BadType p) = 17
 numberOf (BatchHeader f p) = 20
 numberOf (BatchLength f p) = 21
-numberOf (BatchWords f p) = 22
+numberOf (BatchWords WrongKind p) = 22
+numberOf (BatchWords OutOfRange p) = 27
+numberOf (BatchWords MinusZero p) = 28
 numberOf (Positions SeriesAbsent p) = 23
 numberOf (Positions ExercisedNonOption p) = 24
 numberOf (Positions FailNonSecurity p) = 25

@@ -1,6 +1,6 @@
 -- The position batch: the fields of record r. b is the list of its words.
 use mathlib.Core.List.{List}
-use Prim.Native.Nat.{ℕ, _+_, _*_}
+use Prim.Native.Nat.{ℕ, _+_, _*_, _-_, _/_, _%_}
 use lib.IntN.{ℤ}
 use lib.ListN.{getD}
 use Rattle.model.specs.Words.{payload, bits, magnitude, amount}
@@ -20,6 +20,13 @@ batchWords r = 1 + recordWords * r
 
 abbrev pub recordWord : List ℕ → ℕ → ℕ → ℕ
 recordWord b r i = getD b (batchWords r + i) 0
+
+-- word i of a batch, 0 its header, is word fieldOf i of record recordOf i
+abbrev pub recordOf : ℕ → ℕ
+recordOf i = (i - 1) / recordWords
+
+abbrev pub fieldOf : ℕ → ℕ
+fieldOf i = (i - 1) % recordWords
 
 -- the key's ten bits name the position: series, bit 8 and bit 9
 abbrev pub key : List ℕ → ℕ → ℕ

@@ -4,7 +4,7 @@ use mathlib.Core.Bool.{_||_}
 use mathlib.Core.List.{List, [], _∷_, _++_}
 use Prim.Native.Nat.{ℕ, _+_, _*_, _%_, _^_}
 use lib.Dec.{ltb}
-use lib.IntN.{pos}
+use lib.IntN.{pos, negℤ}
 use lib.ListN.{length, set}
 use Rattle.model.specs.Words.{word}
 use Rattle.model.specs.Calls.{answer}
@@ -32,6 +32,17 @@ classes a b = dayFile 2 0 (a ++ b)
 -- a share held, and another record behind it
 abbrev held : List ℕ → List ℕ
 held record₁ = batchFile 2 (positionRecord 2 1 0 (pos 0) ++ record₁)
+
+-- two such records: words 1 to 6 and 7 to 12
+abbrev shares : List ℕ
+shares = held (positionRecord 2 1 0 (pos 0))
+
+-- a quantity above the limit, and a sign without a magnitude, which is minus zero
+abbrev tooMany : ℕ
+tooMany = word 4 10000001
+
+abbrev signAlone : ℕ
+signAlone = word 5 (2 ^ 28)
 
 abbrev none : List ℕ
 none = batchFile 0 []
@@ -105,15 +116,46 @@ refusals =
     }
     -- 21: a record too few, a word too many
     ∷ record { computed = answerNumbers day (word 1 1 ∷ []) ++ answerNumbers day (none ++ 0 ∷ []); published = pos 21 ∷ pos 0 ∷ pos 21 ∷ pos 0 ∷ [] }
-    -- 22: a spare bit of the key; a quantity and a DVP above their limits; minus zero
+    -- 22: a word of a wrong kind, at each place of a record, and behind it in another
     ∷ record {
       computed =
-          answerNumbers day (held (positionRecord (2 ^ 10) 0 1 (pos 0)))
-          ++ answerNumbers day (held (positionRecord 2 10000001 0 (pos 0)))
-          ++ answerNumbers day (held (positionRecord 2 0 1 (pos 5000000000000001)))
-          ++ answerNumbers day (held (word 2 2 ∷ word 4 0 ∷ word 4 0 ∷ word 5 (2 ^ 28) ∷ word 6 0 ∷ word 6 0 ∷ []));
-      published = pos 22 ∷ pos 1 ∷ pos 22 ∷ pos 1 ∷ pos 22 ∷ pos 1 ∷ pos 22 ∷ pos 1 ∷ [];
+          answerNumbers day (set shares 7 (word 4 2)) ++ answerNumbers day (set shares 8 (word 2 1))
+          ++ answerNumbers day (set shares 9 (word 3 0))
+          ++ answerNumbers day (set shares 10 (word 6 0))
+          ++ answerNumbers day (set shares 11 (word 5 0))
+          ++ answerNumbers day (set shares 12 (word 7 0))
+          ++ answerNumbers day (set (set shares 12 (word 5 0)) 1 (word 0 2));
+      published =
+          pos 22 ∷ pos 7 ∷ pos 22 ∷ pos 8 ∷ pos 22 ∷ pos 9 ∷ pos 22 ∷ pos 10 ∷ pos 22 ∷ pos 11 ∷ pos 22 ∷ pos 12 ∷ pos 22 ∷ pos 1 ∷ [];
     }
+    -- 27: a spare bit of the key, both quantities above their limit; by the amount's first word each end of its spare bits and a DVP above its limit of either sign
+    ∷ record {
+      computed =
+          answerNumbers day (set shares 7 (word 2 (2 + 2 ^ 10))) ++ answerNumbers day (set shares 8 tooMany)
+          ++ answerNumbers day (set shares 9 tooMany)
+          ++ answerNumbers day (set shares 10 (word 5 (2 ^ 5)))
+          ++ answerNumbers day (set shares 10 (word 5 (2 ^ 27)))
+          ++ answerNumbers day (held (positionRecord 2 0 1 (pos 5000000000000001)))
+          ++ answerNumbers day (held (positionRecord 2 0 1 (negℤ (pos 5000000000000001))));
+      published =
+          pos 27 ∷ pos 7 ∷ pos 27 ∷ pos 8 ∷ pos 27 ∷ pos 9 ∷ pos 27 ∷ pos 10 ∷ pos 27 ∷ pos 10 ∷ pos 27 ∷ pos 10 ∷ pos 27 ∷ pos 10 ∷ [];
+    }
+    -- 28: minus zero, in either record
+    ∷ record {
+      computed = answerNumbers day (set shares 4 signAlone) ++ answerNumbers day (set shares 10 signAlone);
+      published = pos 28 ∷ pos 4 ∷ pos 28 ∷ pos 10 ∷ [];
+    }
+    -- 22, 27 and 28, each over the whole batch: too many in record 1; with minus zero in record 0; that alone; with a last word of kind 5
+    ∷ record {
+      computed =
+          answerNumbers day (set shares 8 tooMany) ++ answerNumbers day (set (set shares 8 tooMany) 4 signAlone)
+          ++ answerNumbers day (set shares 4 signAlone)
+          ++ answerNumbers day (set (set shares 4 signAlone) 12 (word 5 0))
+          ++ answerNumbers day (set (set (set shares 8 tooMany) 4 signAlone) 12 (word 5 0));
+      published = pos 27 ∷ pos 8 ∷ pos 27 ∷ pos 8 ∷ pos 28 ∷ pos 4 ∷ pos 22 ∷ pos 12 ∷ pos 22 ∷ pos 12 ∷ [];
+    }
+    -- minus zero in record 1 before a fourth series in record 0
+    ∷ record { computed = answerNumbers day (set (set shares 1 (word 2 3)) 10 signAlone); published = pos 28 ∷ pos 10 ∷ [] }
     -- 23: a fourth series
     ∷ record { computed = answerNumbers day (held (positionRecord 3 0 1 (pos 0))); published = pos 23 ∷ pos 1 ∷ [] }
     -- 24: the future exercised, the share exercised

@@ -12,7 +12,7 @@ pub enum Verdict {
     Failed(Check),
 }
 
-// The stages of check, one variant each: its reason, and the place (the first offending record, or what the row says).
+// The stages of check, one variant each: its reason, and the place (the first offending record or word, or what the row says).
 pub enum Check {
     Bytes(BytesFault, usize),
     DayHeader(DayHeaderFault, usize),
@@ -73,9 +73,11 @@ pub enum BatchLengthFault {
     BadBatchLength,
 }
 
-// Row 22.
+// Rows 22, 27 and 28.
 pub enum BatchWordsFault {
-    BadBatchWord,
+    WrongKind,
+    OutOfRange,
+    MinusZero,
 }
 
 // Rows 23 to 26.

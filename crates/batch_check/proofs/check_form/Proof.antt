@@ -6,13 +6,12 @@ use Rattle.model.specs.BatchChecks.{row21, batchForm}
 use Rattle.batch_check.proofs.check_form.Statement.{statement}
 use Rattle.batch_check.proofs.check_form.Tie as tie
 
-first-bad-record-requires : tie.Need-first-bad-record-requires
+check-words-requires : tie.Need-check-words-requires
 unfolding row21
-first-bad-record-requires c κs =
+check-words-requires c κs =
     let e = c .before in
-    let b = e .before .before .before .before .before .args .batch .now in
-    let h = equal-of (length b) (batchWords (recordCount b)) (e .before .bad-length .result) (e .before .bad-length .ensures) (e .if2 .left) in
-    search needs
+    let b = e .before .before .before .before .args .batch .now in
+    equal-of (length b) (batchWords (recordCount b)) (e .bad-length .result) (e .bad-length .ensures) (c .if2 .left)
 
 returns : tie.Need-returns
 unfolding batchForm
@@ -26,10 +25,6 @@ returns-3 : tie.Need-returns-3
 unfolding batchForm
 returns-3 c = search (verdicts, needs)
 
-returns-4 : tie.Need-returns-4
-unfolding batchForm
-returns-4 c = search (verdicts, needs)
-
 pub check-form-spec : {M : Type 1} → statement M
 check-form-spec =
     tie.close
@@ -38,9 +33,5 @@ check-form-spec =
     returns
     (λ c κs. search needs)
     returns-2
-    (λ c κs. search needs)
-    first-bad-record-requires
-    (λ c. search needs)
-    returns-3
-    (λ c. search needs)
-    returns-4)
+    check-words-requires
+    returns-3)

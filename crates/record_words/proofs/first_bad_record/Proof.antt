@@ -3,12 +3,12 @@ use mathlib.Core.Path.{_≡_}
 use Prim.Native.Nat.{_≤_, _-_}
 use Rattle.numbers.specs.declared.Found.the-variants.{Nothing}
 use Rattle.numbers.specs.Scan.{firstBad, scan}
-use Rattle.model.specs.BatchChecks.{row22}
-use Rattle.batch_words.proofs.first_bad_record.Statement.{statement}
-use Rattle.batch_words.proofs.first_bad_record.Tie as tie
+use Rattle.record_words.specs.BadRecord.{badRecord}
+use Rattle.record_words.proofs.first_bad_record.Statement.{statement}
+use Rattle.record_words.proofs.first_bad_record.Tie as tie
 
 abbrev Inv-loop : tie.InvT-loop
-Inv-loop batch count r₀ r = (r ≤ count) × (firstBad (row22 batch) r ≡ Nothing)
+Inv-loop batch count r₀ r = (r ≤ count) × (firstBad (badRecord batch) r ≡ Nothing)
 
 abbrev μ-loop : tie.MeasureT-loop
 μ-loop batch count r₀ r = count - r

@@ -1,0 +1,20 @@
+use borrow.Author.Needs.{needs}
+use Rattle.model.specs.BatchChecks.{outOfRange}
+use Rattle.batch_words.proofs.out_of_range.Statement.{statement}
+use Rattle.batch_words.proofs.out_of_range.Tie as tie
+
+returns : tie.Need-returns
+unfolding outOfRange
+returns c =
+    let w = c .before in
+    rw (w .payload .ensures, w .before .record-word .ensures, w .before .before .record-limit .ensures, c .dvp-out-of-range .ensures)
+
+pub out-of-range-spec : {M : Type 1} → statement M
+out-of-range-spec =
+    tie.close
+    (tie.spec
+    (λ c κs. search needs)
+    (λ c κs. search needs)
+    (λ c κs. search needs)
+    (λ c κs. search needs)
+    returns)

@@ -1,0 +1,17 @@
+use borrow.Author.Needs.{needs}
+use Rattle.model.specs.BatchChecks.{wrongKind}
+use Rattle.batch_words.proofs.wrong_kind.Statement.{statement}
+use Rattle.batch_words.proofs.wrong_kind.Tie as tie
+
+returns : tie.Need-returns
+unfolding wrongKind
+returns c = rw (c .before .kind .ensures, c .before .before .record-word .ensures, c .record-kind .ensures)
+
+pub wrong-kind-spec : {M : Type 1} → statement M
+wrong-kind-spec =
+    tie.close
+    (tie.spec
+    (λ c κs. search needs)
+    (λ c κs. search needs)
+    (λ c κs. search needs)
+    returns)
