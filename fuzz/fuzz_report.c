@@ -117,6 +117,15 @@ static void check_memory(uint64_t result, const uint8_t *memory, size_t length) 
     for (size_t i = written; i < length; i++) must(memory[i] == FILL(i), "bytes past the report remain");
 }
 
+/* A refusal that names a word: one of a record; of a wrong kind, where the row says so, and else of the right one. */
+static void check_word(uint64_t result, const uint8_t *batch, size_t length) {
+    static const uint32_t kinds[] = {2, 4, 4, 5, 6, 6};
+    uint32_t number = mars_number(result), at = mars_value(result);
+    if (!mars_names_word(number)) return;
+    must(at >= 1 && at < length / 4, "word of a record");
+    must((mars_word(batch, at) >> 29 != kinds[mars_batch_field(at)]) == (number == MARS_BATCH_KIND), "kind");
+}
+
 static void mark(uint64_t result) {
     uint32_t number = mars_number(result), value = mars_value(result), size = 0;
     must(number <= 40, "number");
@@ -153,6 +162,7 @@ int LLVMFuzzerTestOneInput(const uint8_t *data, size_t size) {
     uint64_t result = mars_report(d, day_length, b, batch_length, r, length);
     must(memcmp(d, day, day_length) == 0 && memcmp(b, batch, batch_length) == 0, "inputs remain");
     check_memory(result, r, length);
+    check_word(result, b, batch_length);
 
     uint8_t *d2 = block(day, day_length), *b2 = block(batch, batch_length), *r2 = malloc(length ? length : 1);
     must(r2 != NULL, "malloc");
