@@ -5,9 +5,8 @@ ghost use lib.ListN.{length};
 ghost use Rattle.numbers.specs.declared.Found.the-variants.{Nothing};
 ghost use Rattle.numbers.specs.Scan.{firstBad};
 ghost use Rattle.model.specs.Batch.{recordCount, recordWords, batchWords};
-ghost use Rattle.model.specs.BatchChecks.{wrongKind, dvpOutOfRange, outOfRange, minusZero, atWord, wordCheck};
+ghost use Rattle.model.specs.BatchChecks.{dvpOutOfRange, row22, row27, row28, rowOf, wordRow, wordCheck};
 ghost use Rattle.record_words.specs.BadRecord.{badRecord};
-ghost use Rattle.batch_words.specs.Faults.{faultOf, wordRow};
 use batch::RECORD_WORDS;
 use batch::dvp_size;
 use batch::record_count;
@@ -27,8 +26,9 @@ use words::payload;
 
 // Row 22 of word j of record r.
 fn wrong_kind(batch: &[u32], r: usize, j: usize) -> bool
-    requires { ⌜ batchWords r + j < length (now batch) ⌝ }
-    ensures { λ x. ⌜ x ≡ wrongKind (now (batch .entry)) r j ⌝ }
+    requires { ⌜ j < recordWords ⌝ }
+    requires { ⌜ batchWords (r + 1) ≤ length (now batch) ⌝ }
+    ensures { λ x. ⌜ x ≡ row22 (now (batch .entry)) (batchWords r + j) ⌝ }
 {
     kind(record_word(batch, r, j)) != record_kind(j)
 }
@@ -45,15 +45,16 @@ fn dvp_out_of_range(batch: &[u32], r: usize) -> bool
 fn out_of_range(batch: &[u32], r: usize, j: usize) -> bool
     requires { ⌜ j < recordWords ⌝ }
     requires { ⌜ batchWords (r + 1) ≤ length (now batch) ⌝ }
-    ensures { λ x. ⌜ x ≡ outOfRange (now (batch .entry)) r j ⌝ }
+    ensures { λ x. ⌜ x ≡ row27 (now (batch .entry)) (batchWords r + j) ⌝ }
 {
     (record_limit(j) < payload(record_word(batch, r, j))) | ((j == 3) & dvp_out_of_range(batch, r))
 }
 
 // Row 28: at its first word the DVP amount.
 fn minus_zero(batch: &[u32], r: usize, j: usize) -> bool
+    requires { ⌜ j < recordWords ⌝ }
     requires { ⌜ batchWords (r + 1) ≤ length (now batch) ⌝ }
-    ensures { λ x. ⌜ x ≡ minusZero (now (batch .entry)) r j ⌝ }
+    ensures { λ x. ⌜ x ≡ row28 (now (batch .entry)) (batchWords r + j) ⌝ }
 {
     (j == 3) & ((negative(record_word(batch, r, 3)) == 1) & (dvp_size(batch, r) == 0))
 }
@@ -62,7 +63,7 @@ fn minus_zero(batch: &[u32], r: usize, j: usize) -> bool
 fn has_fault(fault: BatchWordsFault, batch: &[u32], r: usize, j: usize) -> bool
     requires { ⌜ j < recordWords ⌝ }
     requires { ⌜ batchWords (r + 1) ≤ length (now batch) ⌝ }
-    ensures { λ x. ⌜ x ≡ faultOf fault (now (batch .entry)) r j ⌝ }
+    ensures { λ x. ⌜ x ≡ rowOf fault (now (batch .entry)) (batchWords r + j) ⌝ }
 {
     match fault {
         BatchWordsFault::WrongKind => wrong_kind(batch, r, j),
@@ -74,7 +75,7 @@ fn has_fault(fault: BatchWordsFault, batch: &[u32], r: usize, j: usize) -> bool
 // The first word of record r that it refuses, by its place there.
 fn first_in_record(fault: BatchWordsFault, batch: &[u32], r: usize) -> Found
     requires { ⌜ batchWords (r + 1) ≤ length (now batch) ⌝ }
-    ensures { λ x. ⌜ x ≡ firstBad (faultOf fault (now (batch .entry)) r) recordWords ⌝ }
+    ensures { λ x. ⌜ x ≡ firstBad (λ j. rowOf fault (now (batch .entry)) (batchWords r + j)) recordWords ⌝ }
 {
     let mut j = 0;
     while j < RECORD_WORDS {
@@ -89,8 +90,8 @@ fn first_in_record(fault: BatchWordsFault, batch: &[u32], r: usize) -> Found
 // The first word of so many records that it refuses, by its index in the batch; none of those before record `from`.
 fn first_in_batch(fault: BatchWordsFault, batch: &[u32], from: usize, count: usize) -> Found
     requires { ⌜ (from ≤ count) × (batchWords count ≤ length (now batch)) ⌝ }
-    requires { ⌜ firstBad (atWord (faultOf fault (now batch))) (batchWords from) ≡ Nothing ⌝ }
-    ensures { λ x. ⌜ x ≡ firstBad (atWord (faultOf fault (now (batch .entry)))) (batchWords count) ⌝ }
+    requires { ⌜ firstBad (rowOf fault (now batch)) (batchWords from) ≡ Nothing ⌝ }
+    ensures { λ x. ⌜ x ≡ firstBad (rowOf fault (now (batch .entry))) (batchWords count) ⌝ }
 {
     let mut r = from;
     while r < count {
@@ -105,14 +106,14 @@ fn first_in_batch(fault: BatchWordsFault, batch: &[u32], from: usize, count: usi
 // The row over the whole batch.
 fn check_row(fault: BatchWordsFault, batch: &[u32], from: usize) -> Verdict
     requires { ⌜ (from ≤ recordCount (now batch)) × (length (now batch) ≡ batchWords (recordCount (now batch))) ⌝ }
-    requires { ⌜ firstBad (atWord (faultOf fault (now batch))) (batchWords from) ≡ Nothing ⌝ }
+    requires { ⌜ firstBad (rowOf fault (now batch)) (batchWords from) ≡ Nothing ⌝ }
     ensures { λ x. ⌜ x ≡ wordRow fault (now (batch .entry)) ⌝ }
 {
     let count = record_count(batch);
-    match first_in_batch(fault, batch, from, count) {
-        Found::At(i) => Verdict::Failed(Check::BatchWords(fault, i)),
-        Found::Nothing => Verdict::Passed,
+    if let Found::At(i) = first_in_batch(fault, batch, from, count) {
+        return Verdict::Failed(Check::BatchWords(fault, i));
     }
+    Verdict::Passed
 }
 
 // The three rows, where no record before `from` is bad.

@@ -12,16 +12,10 @@ use Rattle.model.specs.declared.BatchWordsFault.{BatchWordsFault}
 use Rattle.model.specs.declared.BatchWordsFault.the-variants.{WrongKind, OutOfRange, MinusZero}
 use Rattle.model.specs.declared.Verdict.{Verdict}
 use Rattle.model.specs.declared.Verdict.the-variants.{Passed, Failed}
-use Rattle.model.specs.Rows.{foundRow, recordRow}
+use Rattle.model.specs.Rows.{foundRow}
 use Rattle.model.specs.Batch.{recordCount, batchWords}
-use Rattle.model.specs.BatchChecks.{atWord, row22, row27, row28, wordCheck}
+use Rattle.model.specs.BatchChecks.{atWord, row22, row27, row28, rowOf, wordRow, wordCheck}
 use Rattle.model.proofs.Verdicts.{_then_, failed-not, tried-each}
-
--- the row of each reason
-abbrev pub rowOf : BatchWordsFault → List ℕ → ℕ → Bool
-rowOf WrongKind = row22
-rowOf OutOfRange = row27
-rowOf MinusZero = row28
 
 -- word i is a record's, so not the header, and the first at which the row holds
 pub record FirstWord (f : BatchWordsFault) (b : List ℕ) (i : ℕ) : Type 0 where
@@ -42,7 +36,7 @@ module _ (b : List ℕ) where
   passed : Named Passed
   passed = record { named = λ f i e. failed-not (BatchWords f i) (sym e) }
 
-  word : (f : BatchWordsFault) → Named (recordRow (BatchWords f) (rowOf f b) (batchWords (recordCount b)))
+  word : (f : BatchWordsFault) → Named (wordRow f b)
   word f = by (firstBad (rowOf f b) (batchWords (recordCount b))) refl
     where
       above : (i : ℕ) → rowOf f b i ≡ true → 0 < i

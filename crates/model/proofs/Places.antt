@@ -20,6 +20,7 @@ use Rattle.model.specs.declared.ClassFault.the-variants.{ClassOrder, Off
 use Rattle.model.specs.declared.SeriesFault.the-variants.{ClassAbsent, SeriesOrder, BadType}
 use Rattle.model.specs.declared.BatchHeaderFault.the-variants.{BadBatchHeader}
 use Rattle.model.specs.declared.BatchLengthFault.the-variants.{BadBatchLength}
+use Rattle.model.specs.declared.BatchWordsFault.{BatchWordsFault}
 use Rattle.model.specs.declared.BatchWordsFault.the-variants.{WrongKind, OutOfRange, MinusZero}
 use Rattle.model.specs.declared.PositionFault.the-variants.{SeriesAbsent, ExercisedNonOption, FailNonSecurity, DvpNonSecurity}
 use Rattle.model.specs.declared.NettingFault.the-variants.{NetTooLarge}
@@ -32,7 +33,7 @@ use Rattle.model.specs.Rows.{tried, plainRow, foundRow, recordRow}
 use Rattle.model.specs.DayFile.{classCount, seriesCount}
 use Rattle.model.specs.DayChecks.{row10, row11, row12, row13, row14, row15, row16, row17, classCheck, seriesCheck, recordCheck, dayCheck}
 use Rattle.model.specs.Batch.{recordCount, batchWords}
-use Rattle.model.specs.BatchChecks.{row20, row21, row22, row27, row28, row23, row24, row25, row26, wordCheck, batchForm, positionCheck, batchCheck}
+use Rattle.model.specs.BatchChecks.{row20, row21, rowOf, wordRow, row23, row24, row25, row26, wordCheck, batchForm, positionCheck, batchCheck}
 use Rattle.model.specs.Netting.{row30, nettingCheck}
 use Rattle.model.specs.Calls.{verdict, answer, answerOf, roomAnswer, needed}
 use Rattle.model.specs.Bytes.{wordsOf, row1, row2, bytesCheck, byteAnswer}
@@ -89,11 +90,7 @@ batch-low d b =
     (all-low _
     (plain-low (BatchHeader BadBatchHeader) (row20 b) refl
     then plain-low (BatchLength BadBatchLength) (row21 b) refl
-    then all-low _
-    (record-low (BatchWords WrongKind) (row22 b) (batchWords (recordCount b)) (λ i. refl) (omega arith)
-    then record-low (BatchWords OutOfRange) (row27 b) (batchWords (recordCount b)) (λ i. refl) (omega arith)
-    then record-low (BatchWords MinusZero) (row28 b) (batchWords (recordCount b)) (λ i. refl) (omega arith)
-    then tt)
+    then all-low _ (word-low WrongKind then word-low OutOfRange then word-low MinusZero then tt)
     then tt)
     then all-low _
     (record-low (Positions SeriesAbsent) (row23 d b) (recordCount b) (λ i. refl) (omega arith)
@@ -102,6 +99,9 @@ batch-low d b =
     then record-low (Positions DvpNonSecurity) (row26 d b) (recordCount b) (λ i. refl) (omega arith)
     then tt)
     then tt)
+  where
+    word-low : (f : BatchWordsFault) → Low (wordRow f b)
+    word-low f = record-low (BatchWords f) (rowOf f b) (batchWords (recordCount b)) (λ i. refl) (omega arith)
 
 verdict-low : (d b : List ℕ) → Low (verdict d b)
 unfolding verdict nettingCheck

@@ -8,6 +8,7 @@ use lib.ListN.{length}
 use Rattle.model.specs.declared.Check.the-variants.{BatchHeader, BatchLength, BatchWords, Positions}
 use Rattle.model.specs.declared.BatchHeaderFault.the-variants.{BadBatchHeader}
 use Rattle.model.specs.declared.BatchLengthFault.the-variants.{BadBatchLength}
+use Rattle.model.specs.declared.BatchWordsFault.{BatchWordsFault}
 use Rattle.model.specs.declared.BatchWordsFault.the-variants.{WrongKind, OutOfRange, MinusZero}
 use Rattle.model.specs.declared.PositionFault.the-variants.{SeriesAbsent, ExercisedNonOption, FailNonSecurity, DvpNonSecurity}
 use Rattle.model.specs.declared.Verdict.{Verdict}
@@ -71,6 +72,15 @@ row27 b = atWord (outOfRange b)
 unfoldable pub row28 : List ℕ → ℕ → Bool
 row28 b = atWord (minusZero b)
 
+-- the three by their reason, and each over all words
+abbrev pub rowOf : BatchWordsFault → List ℕ → ℕ → Bool
+rowOf WrongKind = row22
+rowOf OutOfRange = row27
+rowOf MinusZero = row28
+
+abbrev pub wordRow : BatchWordsFault → List ℕ → Verdict
+wordRow f b = recordRow (BatchWords f) (rowOf f b) (batchWords (recordCount b))
+
 -- ---- the records
 
 -- series place not below S
@@ -93,12 +103,7 @@ row26 d b r = ltb 0 (natAbs (dvpAmount b r)) && not (isSecurity (seriesType d (p
 
 -- the stage of the words
 unfoldable pub wordCheck : List ℕ → Verdict
-wordCheck b =
-    tried
-    (recordRow (BatchWords WrongKind) (row22 b) (batchWords (recordCount b))
-    ∷ recordRow (BatchWords OutOfRange) (row27 b) (batchWords (recordCount b))
-    ∷ recordRow (BatchWords MinusZero) (row28 b) (batchWords (recordCount b))
-    ∷ [])
+wordCheck b = tried (wordRow WrongKind b ∷ wordRow OutOfRange b ∷ wordRow MinusZero b ∷ [])
 
 -- those that need no day file
 unfoldable pub batchForm : List ℕ → Verdict

@@ -22,6 +22,6 @@ check-row-spec =
     (λ c κs. search needs)
     (λ c κs. search needs)
     (λ c. search needs)
-    (λ c. search needs)
     returns
+    (λ c. search needs)
     returns-2)

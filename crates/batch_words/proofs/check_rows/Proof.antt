@@ -1,20 +1,20 @@
 use borrow.Author.Needs.{needs}
 use Rattle.model.proofs.Verdicts.{last-stage, stage-passed, verdicts}
-use Rattle.model.specs.BatchChecks.{row22, row27, row28, wordCheck}
-use Rattle.batch_words.specs.Faults.{records-clear}
+use Rattle.model.specs.BatchChecks.{wordCheck}
+use Rattle.batch_words.specs.Clear.{records-clear}
 use Rattle.batch_words.proofs.check_rows.Statement.{statement}
 use Rattle.batch_words.proofs.check_rows.Tie as tie
 
 returns : tie.Need-returns
-unfolding wordCheck row22
+unfolding wordCheck
 returns c = search (verdicts, needs)
 
 returns-2 : tie.Need-returns-2
-unfolding wordCheck row22 row27
+unfolding wordCheck
 returns-2 c = search (verdicts, needs)
 
 returns-3 : tie.Need-returns-3
-unfolding wordCheck row22 row27 row28
+unfolding wordCheck
 returns-3 c =
     let t = c .before in
     let s = t .before .before .before in

@@ -2,7 +2,7 @@ use borrow.Author.Needs.{needs}
 use mathlib.Core.Path.{sym, ap, _∙_}
 use Rattle.numbers.specs.Scan.{firstBad, first-at, first-front}
 use Rattle.record_words.specs.BadRecord.{badRecord}
-use Rattle.batch_words.specs.Faults.{words-pass}
+use Rattle.batch_words.specs.Clear.{words-pass}
 use Rattle.batch_words.proofs.check_words.Statement.{statement}
 use Rattle.batch_words.proofs.check_words.Tie as tie
 

@@ -4,14 +4,13 @@ use Prim.Native.Nat.{_≤_, _-_}
 use Rattle.numbers.specs.declared.Found.the-variants.{Nothing}
 use Rattle.numbers.specs.Scan.{firstBad}
 use Rattle.model.specs.Batch.{batchWords}
-use Rattle.model.specs.BatchChecks.{atWord}
-use Rattle.batch_words.specs.Faults.{faultOf}
+use Rattle.model.specs.BatchChecks.{rowOf}
 use Rattle.batch_words.specs.Scan.{in-record, records}
 use Rattle.batch_words.proofs.first_in_batch.Statement.{statement}
 use Rattle.batch_words.proofs.first_in_batch.Tie as tie
 
 abbrev Inv-loop : tie.InvT-loop
-Inv-loop fault batch from count r₀ r = (r ≤ count) × (firstBad (atWord (faultOf fault batch)) (batchWords r) ≡ Nothing)
+Inv-loop fault batch from count r₀ r = (r ≤ count) × (firstBad (rowOf fault batch) (batchWords r) ≡ Nothing)
 
 abbrev μ-loop : tie.MeasureT-loop
 μ-loop fault batch from count r₀ r = count - r
