@@ -1,7 +1,8 @@
 /*
- * Fuzz target over the byte call. An input is two bytes of day length, two of memory length (low byte first), the day file
- * and the batch. Each input is called twice: with memories at the border of inaccessible pages, so that a stray access of
- * the library itself ends the run, and with exactly sized heap blocks under the sanitizer's eyes.
+ * Fuzz target over the byte call and the call over words. An input is two bytes of day length, two of memory length (low byte
+ * first), one of the number of words of deposits, these words, the day file and the batch. Each input is called three times: in
+ * bytes with memories at the border of inaccessible pages, so that a stray access of the library itself ends the run, with
+ * exactly sized heap blocks under the sanitizer's eyes, and over words with the deposits, at the border again.
  *
  * Built with -DFUZZ_LOOP it has its own mutation loop and needs no libFuzzer: fuzz_report SECONDS SEED...
  */
@@ -15,34 +16,36 @@
 #include <time.h>
 #include <unistd.h>
 
-#define HEAD 4
+#define HEAD 5
 #define SERIES_WORDS 15
 #define ROOM (128 * 1024)
 #define FILL(i) ((uint8_t)((i) * 31 + 7))
+#define NUMBERS 52                /* refusal numbers from 0 to 51 */
+#define KINDS (NUMBERS * 16 + 59) /* kinds of answer of a call: number and size of place, or lines */
 
 int LLVMFuzzerTestOneInput(const uint8_t *data, size_t size);
 
 #ifndef FUZZ_LOOP
 /* The library has no coverage marks: answers by number and size of place, and line counts, guide the fuzzer instead. */
-__attribute__((section("__libfuzzer_extra_counters"))) static uint8_t reached[41 * 16 + 59];
+__attribute__((section("__libfuzzer_extra_counters"))) static uint8_t reached[2 * KINDS];
 #else
-static uint8_t reached[41 * 16 + 59];
+static uint8_t reached[2 * KINDS];
 #endif
 
 /* Answers over the whole run, printed at its end; the fuzzer clears its own marks before each input. */
-static uint64_t refusals[41], reports[59];
+static uint64_t refusals[NUMBERS], reports[59], covered;
 
 static void print_reached(void) {
-    uint64_t inputs = 0;
-    for (int i = 0; i < 59; i++) inputs += reports[i];
-    for (int i = 0; i < 41; i++) inputs += refusals[i];
-    fprintf(stderr, "inputs: %llu\nrefusals (number: inputs):", (unsigned long long)inputs);
-    for (int i = 0; i < 41; i++)
+    uint64_t answers = 0;
+    for (int i = 0; i < 59; i++) answers += reports[i];
+    for (int i = 0; i < NUMBERS; i++) answers += refusals[i];
+    fprintf(stderr, "answers: %llu\nrefusals (number: answers):", (unsigned long long)answers);
+    for (int i = 0; i < NUMBERS; i++)
         if (refusals[i]) fprintf(stderr, " %d: %llu", i, (unsigned long long)refusals[i]);
-    fprintf(stderr, "\nreports (lines: inputs):");
+    fprintf(stderr, "\nreports (lines: answers):");
     for (int i = 0; i < 59; i++)
         if (reports[i]) fprintf(stderr, " %d: %llu", i, (unsigned long long)reports[i]);
-    fprintf(stderr, "\n");
+    fprintf(stderr, "\nreports that deposits change: %llu\n", (unsigned long long)covered);
 }
 
 static void must(int holds, const char *what) {
@@ -126,30 +129,69 @@ static void check_word(uint64_t result, const uint8_t *batch, size_t length) {
     must((mars_word(batch, at) >> 29 != kinds[mars_batch_field(at)]) == (number == MARS_BATCH_KIND), "kind");
 }
 
-static void mark(uint64_t result) {
+/* Call 0 is the byte call, 1 the call over words. */
+static void mark(int call, uint64_t result) {
     uint32_t number = mars_number(result), value = mars_value(result), size = 0;
-    must(number <= 40, "number");
+    uint8_t *kinds = reached + call * KINDS;
+    must(number < NUMBERS && (call == 1 || number <= MARS_SHORT_REPORT), "number");
     if (number == 0) {
-        reached[41 * 16 + (value - 13) / 19] = 1;
+        kinds[NUMBERS * 16 + (value - 13) / 19] = 1;
         reports[(value - 13) / 19]++;
     } else {
         for (; value >> size; size++) must(size < 15, "place");
-        reached[number * 16 + size] = 1;
+        kinds[number * 16 + size] = 1;
         refusals[number]++;
     }
 }
 
+/* The call over words beside the byte call's result and memory: equal without deposits; with them they come behind row 30, and
+ * neither the length nor any line of a fail changes. */
+static void check_deposits(uint64_t result, const uint8_t *memory, uint64_t bytes_result, const uint8_t *bytes, size_t count) {
+    uint32_t number = mars_number(result), before = mars_number(bytes_result);
+    if (number == MARS_DEPOSIT || number == MARS_UNLIKE_MULTIPLIERS) {
+        must(count > 0 && (before == MARS_REPORT || before == MARS_SHORT_REPORT), "deposits are tried between 30 and 40");
+        must(mars_value(result) < (count + 1) / MARS_DEPOSIT_WORDS, "place of a deposit");
+    } else {
+        must(result == bytes_result, "result of the byte call");
+    }
+    must(count % MARS_DEPOSIT_WORDS == 0 || number != MARS_REPORT, "whole deposits");
+    if (number != MARS_REPORT) return;
+    size_t length = 4 * (size_t)mars_value(result);
+    uint32_t lines = mars_line_count(memory), ordinary = ones(mars_ordinary_groups(memory));
+    size_t fails = 4 * (3 + 19 * (size_t)ordinary);
+    must(memcmp(memory, bytes, 4 * 3) == 0, "head of the byte call");
+    must(memcmp(memory + fails, bytes + fails, 4 * 19 * (size_t)(lines - ordinary)) == 0, "fails of the byte call");
+    must(mars_total(memory, MARS_FAIL) == mars_total(bytes, MARS_FAIL), "fail total of the byte call");
+    int changed = memcmp(memory, bytes, length) != 0;
+    must(count > 0 || !changed, "report of the byte call");
+    covered += (uint64_t)changed;
+}
+
+/* Where an input's day file and batch begin, and the lengths: of deposits in words, of the files in bytes. */
+struct parts {
+    size_t deposits, day, day_length, batch, batch_length;
+};
+
+static struct parts parts_of(const uint8_t *data, size_t size) {
+    struct parts p = {data[4], 0, (size_t)data[0] | (size_t)data[1] << 8, 0, 0};
+    if (p.deposits > (size - HEAD) / 4) p.deposits = (size - HEAD) / 4;
+    p.day = HEAD + 4 * p.deposits;
+    if (p.day_length > size - p.day) p.day_length = size - p.day;
+    p.batch = p.day + p.day_length;
+    p.batch_length = size - p.batch;
+    return p;
+}
+
 int LLVMFuzzerTestOneInput(const uint8_t *data, size_t size) {
-    static uint8_t *pages[3];
+    static uint8_t *pages[4];
     if (pages[0] == NULL) {
-        for (int i = 0; i < 3; i++) pages[i] = fenced();
+        for (int i = 0; i < 4; i++) pages[i] = fenced();
         must(atexit(print_reached) == 0, "atexit");
     }
     if (size < HEAD || size > ROOM) return 0;
-    size_t day_length = (size_t)data[0] | (size_t)data[1] << 8, length = (size_t)data[2] | (size_t)data[3] << 8;
-    if (day_length > size - HEAD) day_length = size - HEAD;
-    size_t batch_length = size - HEAD - day_length;
-    const uint8_t *day = data + HEAD, *batch = day + day_length;
+    struct parts p = parts_of(data, size);
+    size_t day_length = p.day_length, batch_length = p.batch_length, length = (size_t)data[2] | (size_t)data[3] << 8;
+    const uint8_t *day = data + p.day, *batch = data + p.batch;
 
     /* at the start of the pages for odd memory lengths, else at their end */
     int at_start = (int)(length & 1);
@@ -169,10 +211,26 @@ int LLVMFuzzerTestOneInput(const uint8_t *data, size_t size) {
     for (size_t i = 0; i < length; i++) r2[i] = FILL(i);
     must(mars_report(d2, day_length, b2, batch_length, r2, length) == result, "same result");
     must(length == 0 || memcmp(r, r2, length) == 0, "same memory");
+    mark(0, result);
+
+    /* the whole words of each, for files that rows 1 and 2 pass */
+    if (mars_number(result) > MARS_BATCH_BYTES_BAD || mars_number(result) == MARS_REPORT) {
+        size_t room = length / 4;
+        uint32_t *words[4];
+        const uint8_t *from[3] = {day, batch, data + HEAD};
+        const size_t counts[4] = {day_length / 4, batch_length / 4, p.deposits, room};
+        for (int i = 0; i < 4; i++) words[i] = (uint32_t *)(at_start ? pages[i] : pages[i] + ROOM - 4 * counts[i]);
+        for (int i = 0; i < 3; i++) memcpy(words[i], from[i], 4 * counts[i]);
+        for (size_t i = 0; i < 4 * room; i++) ((uint8_t *)words[3])[i] = FILL(i);
+        uint64_t over = mars_report_words(words[0], counts[0], words[1], counts[1], words[2], counts[2], words[3], room);
+        for (int i = 0; i < 3; i++) must(memcmp(words[i], from[i], 4 * counts[i]) == 0, "inputs remain");
+        check_memory(over, (const uint8_t *)words[3], 4 * room);
+        check_deposits(over, (const uint8_t *)words[3], result, r2, p.deposits);
+        mark(1, over);
+    }
     free(d2);
     free(b2);
     free(r2);
-    mark(result);
     return 0;
 }
 
@@ -197,10 +255,9 @@ static size_t mutate(uint8_t *data, size_t size, size_t most, uint64_t seed) {
     uint64_t state = seed;
     if (size < HEAD + 8) return size;
     for (uint32_t n = 1 + next_random(&state) % 4; n > 0; n--) {
-        size_t day_length = (size_t)data[0] | (size_t)data[1] << 8;
-        if (day_length > size - HEAD) day_length = size - HEAD;
-        uint8_t *day = data + HEAD, *batch = day + day_length;
-        size_t day_words = day_length / 4, batch_words = (size - HEAD - day_length) / 4;
+        struct parts p = parts_of(data, size);
+        uint8_t *deposits = data + HEAD, *day = data + p.day, *batch = data + p.batch;
+        size_t day_words = p.day_length / 4, batch_words = p.batch_length / 4;
         int in_day = next_random(&state) & 1;
         uint8_t *words = in_day ? day : batch;
         size_t count = in_day ? day_words : batch_words;
@@ -208,7 +265,7 @@ static size_t mutate(uint8_t *data, size_t size, size_t most, uint64_t seed) {
         uint8_t *at = words + 4 * (next_random(&state) % count);
         size_t classes = day_words ? get(day) & 127u : 0, records = batch_words / 6;
         size_t series_at = 1 + 20 * classes, series = day_words > series_at ? (day_words - series_at) / SERIES_WORDS : 0;
-        switch (next_random(&state) % 10) {
+        switch (next_random(&state) % 12) {
         case 0: put(at, get(at) ^ 1u << next_random(&state) % 32); break;
         case 1:
         case 2: put(at, (get(at) & 7u << 29) | payloads[next_random(&state) % (sizeof payloads / sizeof *payloads)]); break;
@@ -244,7 +301,31 @@ static size_t mutate(uint8_t *data, size_t size, size_t most, uint64_t seed) {
             data[3] = (uint8_t)(length >> 8);
             break;
         }
-        default: /* day length or the end of the batch */
+        case 9: /* a deposit's class, that of a series where there is one, or its shares */
+            if (p.deposits > 1) {
+                uint8_t *one = deposits + 8 * (next_random(&state) % (p.deposits / 2));
+                size_t from = series ? series_at + SERIES_WORDS * (next_random(&state) % series) : 0;
+                if (next_random(&state) & 1)
+                    put(one, series ? get(day + 4 * from) >> 23 & 63u : next_random(&state) % 70);
+                else
+                    put(one + 4, next_random(&state) >> next_random(&state) % 31);
+            }
+            break;
+        case 10: /* one deposit more or fewer */
+            if (next_random(&state) & 1 && p.deposits < 128 && size + 8 <= most) {
+                memmove(deposits + 8, deposits, size - HEAD);
+                put(deposits, next_random(&state) % 64);
+                put(deposits + 4, next_random(&state) % 5000);
+                size += 8;
+                data[4] = (uint8_t)(p.deposits + 2);
+            } else if (p.deposits > 1) {
+                memmove(deposits, deposits + 8, size - HEAD - 8);
+                size -= 8;
+                data[4] = (uint8_t)(p.deposits - 2);
+            }
+            break;
+        default: /* number of words of deposits, day length or the end of the batch */
+            if (next_random(&state) % 8 == 0) data[4] ^= 1;
             if (next_random(&state) % 8 == 0) {
                 data[0] = (uint8_t)(data[0] + next_random(&state) % 9 - 4);
             } else if (next_random(&state) % 8 == 0) {

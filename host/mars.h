@@ -5,8 +5,8 @@
  * additional and minimum margin, total margin, fails held separately, one line for each product group of each book.
  * Every amount is exact, in ten-thousandths of a euro; debit is positive, credit negative.
  *
- * All three memories are runs of 32-bit words, low byte first. mars_reports does the same for many batches in one call, over
- * arrays of uint32_t.
+ * All three memories are runs of 32-bit words, low byte first. Over arrays of uint32_t, mars_report_words does the same and
+ * takes deposits of shares against short futures, and mars_reports does it for many batches in one call.
  */
 #ifndef MARS_H
 #define MARS_H
@@ -48,8 +48,33 @@ uint64_t mars_report(const uint8_t *day, size_t day_len, const uint8_t *batch, s
                      size_t report_len);
 
 /*
+ * Computes the report of an account whose client has deposited shares: what mars_report does, over words, with the net short
+ * futures that the deposits cover left out of the margin.
+ *
+ * day, batch   The files' words.
+ * deposits     MARS_DEPOSIT_WORDS words a deposit, without kind bits: a class number and a number of shares, 0 to
+ *              MARS_MOST_SHARES. A class is named once at the most; the order of the deposits does not matter.
+ *              Shares / multiplier contracts, the remainder dropped, are taken from the class's net short futures in the
+ *              ordinary book: from the largest on, among equals from the further expiry, each used up before the next. Which
+ *              lines there are does not change.
+ * report       The report's words; words past them remain.
+ * *_len        Lengths in words. Any length is allowed, zero too; with no deposits the call is mars_report over words.
+ * Pointers     Not NULL, not even with length zero; aligned as a uint32_t. report overlaps nothing; the three that are read
+ *              may overlap each other, and nothing may write to them while the call runs.
+ *
+ * Result       As of mars_report, without MARS_DAY_BYTES_BAD and MARS_BATCH_BYTES_BAD and with MARS_DEPOSIT and
+ *              MARS_UNLIKE_MULTIPLIERS. On a refusal the report memory is unchanged.
+ *
+ * Threads      The call keeps no state. It may run in any threads at once as long as their report memories are distinct.
+ */
+#define MARS_DEPOSIT_WORDS 2
+#define MARS_MOST_SHARES 10000000
+uint64_t mars_report_words(const uint32_t *day, size_t day_len, const uint32_t *batch, size_t batch_len,
+                           const uint32_t *deposits, size_t deposits_len, uint32_t *report, size_t report_len);
+
+/*
  * Computes the reports of up to MARS_MOST_ACCOUNTS accounts, one behind the other: what single calls do, made in turn, each with
- * the report memory still left. The day file is checked once.
+ * the report memory still left and without deposits. The day file is checked once.
  *
  * day          The day file's words.
  * batches      The accounts' batches, back to back.
@@ -96,8 +121,8 @@ uint64_t mars_reports(const uint32_t *day, size_t day_len, const uint32_t *batch
 #define MARS_UNREADABLE 4294967295u
 uint64_t mars_read_text(const uint8_t *text, size_t text_len, int64_t *ordinary, int64_t *fail, int64_t *account);
 
-/* Refusals in the order in which they are tried, each over all records or words before the next; the last two by mars_reports
- * alone, before all others. */
+/* Refusals in the order in which they are tried, each over all records, words or deposits before the next: the first two by
+ * mars_report alone, those of deposits by mars_report_words alone, the last two by mars_reports alone, before all others. */
 enum mars_refusal {
     MARS_REPORT = 0,            /* no refusal: a report was written */
     MARS_DAY_BYTES_BAD = 1,     /* day file's length is no multiple of 4, or exceeds the longest form */
@@ -120,6 +145,8 @@ enum mars_refusal {
     MARS_POSITION_FAIL = 25,    /* a fail, and not a security */
     MARS_POSITION_DVP = 26,     /* DVP amount not 0, and not a security */
     MARS_NET_LIMIT = 30,        /* a position's net x multiplier above 10,000,000; place: its first record */
+    MARS_DEPOSIT = 50,          /* odd number of words (place 0, first); class unknown or named before, or too many shares */
+    MARS_UNLIKE_MULTIPLIERS = 51, /* the class's futures have unlike multipliers; place: deposit, here and above */
     MARS_SHORT_REPORT = 40,     /* report memory too short; the value is the words needed */
     MARS_ACCOUNT_LENGTHS = 60,  /* more than 64 accounts, or lengths that do not add up to the words given */
     MARS_SHORT_RESULTS = 61     /* result list shorter than two numbers an account */

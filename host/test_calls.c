@@ -1,5 +1,5 @@
 /* Calls at the edges: unaligned and empty inputs, short memories, memories at the border of inaccessible pages, threads;
- * bad words of a batch by record and field; many accounts in one call; printed texts read back. */
+ * bad words of a batch by record and field; many accounts in one call; deposits; printed texts read back. */
 #define _DEFAULT_SOURCE
 #include "mars.h"
 
@@ -288,6 +288,100 @@ static void accounts(void) {
     free((void *)own.batch);
 }
 
+/* ---- deposits */
+
+struct words {
+    uint32_t *at;
+    size_t length;
+};
+
+/* One call with each memory at the end of its pages, the inputs read-only. The report is left in `report`; words that the call may not
+ * write must stay. */
+static uint64_t deposited(struct words d, struct words b, struct words deposits, uint32_t *report, size_t room, const char *what) {
+    static uint8_t *pages[4];
+    size_t length = 16 * (size_t)sysconf(_SC_PAGESIZE);
+    struct words given[3] = {d, b, deposits};
+    uint32_t *at[3];
+    for (int i = 0; i < 4; i++)
+        if (pages[i] == NULL) pages[i] = fenced(length);
+    for (int i = 0; i < 3; i++) {
+        at[i] = (uint32_t *)(pages[i] + length) - given[i].length;
+        mprotect(pages[i], length, PROT_READ | PROT_WRITE);
+        memcpy(at[i], given[i].at, 4 * given[i].length);
+        mprotect(pages[i], length, PROT_READ);
+    }
+    uint32_t *memory = (uint32_t *)(pages[3] + length) - room, *from = memory - GUARD;
+    for (size_t i = 0; i < GUARD + room; i++) from[i] = (uint32_t)i * 7 + 13;
+    uint64_t result = mars_report_words(at[0], d.length, at[1], b.length, at[2], deposits.length, memory, room);
+    size_t written = mars_number(result) == MARS_REPORT ? mars_value(result) : 0;
+    check(written <= room, what, room);
+    for (size_t i = 0; i < GUARD + room; i++)
+        if (i < GUARD || i >= GUARD + written) check(from[i] == (uint32_t)i * 7 + 13, what, i);
+    memcpy(report, memory, 4 * written);
+    return result;
+}
+
+/* M1's futures, at multiplier 5: March 15 and December 13 short, June 14 and September 19 long. */
+static void deposits(const char *folder) {
+    static uint32_t report[MARS_REPORT_BYTES / 4];
+    static uint8_t bytes[MARS_REPORT_BYTES];
+    const uint8_t *read = (const uint8_t *)report;
+    struct file day_file = read_file(folder, "day.w32"), batch_file = read_file(folder, "pos.w32");
+    struct words d = {words_of(day_file), day_file.length / 4}, b = {words_of(batch_file), batch_file.length / 4};
+    uint32_t list[4] = {0, 0, 0, 0};
+    struct words none = {list, 0}, half = {list, 1}, one = {list, MARS_DEPOSIT_WORDS};
+
+    for (size_t room = 0; room <= 40; room++) {
+        uint64_t result = deposited(d, b, none, report, room, "no deposits");
+        check(result == mars_report(day_file.bytes, day_file.length, batch_file.bytes, batch_file.length, bytes, 4 * room),
+              "no deposits: result", room);
+        check(result == (room < 32 ? refusal(MARS_SHORT_REPORT, 32) : 32), "no deposits: number", room);
+        if (room >= 32) check(memcmp(report, bytes, 4 * 32) == 0, "no deposits: report", room);
+    }
+    check(deposited(d, none, half, report, 32, "no batch") == refusal(MARS_BATCH_HEADER, 0), "no batch: result", 0);
+    check(deposited(none, b, half, report, 32, "no day file") == refusal(MARS_DAY_HEADER, 0), "no day file: result", 0);
+
+    /* shares, and the spread margin in euro: 0, 15, 15, 16, 28 and 28 contracts are covered */
+    static const uint32_t covers[][2] = {{4, 12700}, {75, 6500}, {79, 6500}, {80, 6000}, {140, 0}, {MARS_MOST_SHARES, 0}};
+    for (size_t i = 0; i < sizeof covers / sizeof covers[0]; i++) {
+        list[1] = covers[i][0];
+        for (size_t room = 0; room < 32; room++)
+            check(deposited(d, b, one, report, room, "cover") == refusal(MARS_SHORT_REPORT, 32), "cover: room", room);
+        check(deposited(d, b, one, report, 40, "cover") == 32, "cover: result", i);
+        check(mars_line_count(read) == 1 && mars_line_group(read, 0) == 1 && !mars_line_fail(read, 0), "cover: line", i);
+        check(mars_line_amount(read, 0, MARS_SPREAD) == 10000 * (int64_t)covers[i][1], "cover: spread", i);
+        check(mars_total(read, MARS_ACCOUNT) == mars_line_amount(read, 0, MARS_MARGIN), "cover: total", i);
+    }
+
+    /* lists that row 50 refuses, and its place: with and without memory, and with a class of unlike multipliers too */
+    static const struct {
+        size_t count;
+        uint32_t words[4], place;
+    } bad[] = {
+        {1, {0}, 0},         {3, {0, 75, 0}, 0},    {3, {9, 75, 0}, 0},     {4, {9, 75, 0, 75}, 0},
+        {4, {0, 75, 0, 5}, 1}, {4, {0, 75, 1, 5}, 1}, {2, {1u << 31, 75}, 0}, {2, {0, MARS_MOST_SHARES + 1}, 0},
+    };
+    for (int unlike = 0; unlike < 2; unlike++) {
+        d.at[21 + 15 * 3 + 1] += (uint32_t)unlike; /* the last future's multiplier */
+        for (size_t i = 0; i < sizeof bad / sizeof bad[0]; i++) {
+            memcpy(list, bad[i].words, sizeof list);
+            struct words words = {list, bad[i].count};
+            for (size_t room = 0; room <= 32; room += 32)
+                check(deposited(d, b, words, report, room, "50") == refusal(MARS_DEPOSIT, bad[i].place), "50: result", i);
+        }
+    }
+    list[0] = list[1] = 0;
+    for (size_t room = 0; room <= 32; room += 32)
+        check(deposited(d, b, one, report, room, "51") == refusal(MARS_UNLIKE_MULTIPLIERS, 0), "51: result", room);
+    check(deposited(d, b, none, report, 32, "51") == 32, "51: no class named", 0);
+    free(d.at);
+    free(b.at);
+    free(day_file.bytes);
+    free(batch_file.bytes);
+}
+
+/* ---- texts */
+
 /* Reads a text of exactly these bytes; the totals must be those given, which are the numbers before where it has none. */
 static void reads(const char *text, size_t length, uint64_t result, int64_t ordinary, int64_t fail, int64_t account) {
     int64_t totals[3] = {11, -22, 33};
@@ -375,10 +469,10 @@ static void bad_words(void) {
         check(mars_names_word(number) == (number == 22 || number == 27 || number == 28), "bad word: which rows", number);
 }
 
-/* The argument is the folder of the sample `fail`. */
+/* The arguments are the folders of the samples `fail` and `spread`. */
 int main(int argc, char **argv) {
-    if (argc != 2) {
-        fprintf(stderr, "usage: %s FOLDER\n", argv[0]);
+    if (argc != 3) {
+        fprintf(stderr, "usage: %s FAIL SPREAD\n", argv[0]);
         return 2;
     }
     day = read_file(argv[1], "day.w32");
@@ -393,6 +487,7 @@ int main(int argc, char **argv) {
     borders();
     threads();
     accounts();
+    deposits(argv[2]);
     texts();
     free(day.bytes);
     free(batch.bytes);

@@ -10,7 +10,7 @@ pub struct Account {
     pub batch: Vec<u32>,
 }
 
-fn word(kind: u32, payload: u32) -> u32 {
+pub(crate) fn word(kind: u32, payload: u32) -> u32 {
     kind << 29 | payload
 }
 
@@ -45,7 +45,7 @@ fn price(rng: &mut Rng) -> u32 {
 }
 
 /// A price near another, as theoretical and projected prices are.
-fn near(rng: &mut Rng, base: u32) -> u32 {
+pub(crate) fn near(rng: &mut Rng, base: u32) -> u32 {
     if rng.once_in(10) {
         return price(rng);
     }
@@ -61,6 +61,16 @@ fn adjustment(rng: &mut Rng, closing: u32) -> u32 {
         1 => price(rng),
         _ => near(rng, closing),
     }
+}
+
+/// A series with this key and strike.
+pub(crate) fn series_record(rng: &mut Rng, key: u32, strike: u32) -> Vec<u32> {
+    let closing = price(rng);
+    let mut out = vec![word(2, key), word(4, rng.pick(&[1, 1, 5, 100, 1000, 10_000])), word(3, strike), word(3, closing)];
+    let option = matches!(key >> 19 & 15, 2 | 3);
+    out.push(word(3, if option { adjustment(rng, closing) } else { 0 }));
+    out.extend((0..10).map(|_| word(3, near(rng, closing))));
+    out
 }
 
 /// A day file: `classes` and `series` are exact counts (fewer series where keys clash).
@@ -104,18 +114,7 @@ pub fn day_file(rng: &mut Rng, classes: usize, series: usize) -> Vec<u32> {
     }
     let mut out = vec![word(1, classes as u32 | (keys.len() as u32) << 7)];
     out.extend(class_words);
-    for &(key, strike) in &keys {
-        let closing = price(rng);
-        out.push(word(2, key));
-        out.push(word(4, rng.pick(&[1, 1, 5, 100, 1000, 10_000])));
-        out.push(word(3, strike));
-        out.push(word(3, closing));
-        let option = matches!(key >> 19 & 15, 2 | 3);
-        out.push(word(3, if option { adjustment(rng, closing) } else { 0 }));
-        for _ in 0..10 {
-            out.push(word(3, near(rng, closing)));
-        }
-    }
+    keys.iter().for_each(|&(key, strike)| out.extend(series_record(rng, key, strike)));
     out
 }
 

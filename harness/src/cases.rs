@@ -16,7 +16,7 @@ pub struct Case {
 /// The longest report in words.
 pub const LONGEST: usize = 1115;
 
-/// The rows of the table that the call over words can meet with its memory long enough.
+/// The rows of the table that the call over words can meet without deposits, its memory long enough.
 pub const ROWS: [u32; 18] = [10, 11, 12, 13, 14, 15, 16, 17, 20, 21, 22, 27, 28, 23, 24, 25, 26, 30];
 
 /// One share, and so many records of it.

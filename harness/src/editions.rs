@@ -47,7 +47,7 @@ fn line(name: &str, numbers: impl IntoIterator<Item = u32>) -> String {
 /// The answer of a case of the call over words; its memory must be what it was.
 fn words(case: &Case) -> String {
     let (batch, mut memory) = (case.words("batch"), case.lent("memory"));
-    let answer = call_words(&case.words("day"), &batch, &mut memory);
+    let answer = call_words(&case.words("day"), &batch, &[], &mut memory);
     let (number, value) = agreed(case.answer(), numbers(answer), &batch, &case.name);
     assert_eq!(memory, case.memory_after(), "{}", case.name);
     line("answer", [number, value as u32])

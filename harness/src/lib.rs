@@ -1,6 +1,7 @@
 //! A second opinion on the unit: a reckoner written from the papers alone, accounts to try, and the unit's calls.
 pub mod accounts;
 pub mod cases;
+pub mod deposits;
 pub mod editions;
 pub mod fields;
 pub mod files;

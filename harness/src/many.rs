@@ -20,7 +20,7 @@ pub fn call_all(
     for (i, &length) in lengths.iter().enumerate() {
         let (batch, others) = behind.split_at(length as usize);
         behind = others;
-        let pair = match call_words(day, batch, &mut memory[written..]) {
+        let pair = match call_words(day, batch, &[], &mut memory[written..]) {
             Ok(n) => {
                 written += n;
                 [0, n as u32]

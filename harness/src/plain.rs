@@ -43,6 +43,26 @@ impl Day<'_> {
         self.class(c, 0) >> 5 & 63
     }
 
+    /// The class with this number; the numbers ascend.
+    fn class_of(&self, number: u32) -> Option<usize> {
+        let (mut c, mut end) = (0, self.classes);
+        while c < end {
+            let middle = (c + end) / 2;
+            if self.number(middle) < number {
+                c = middle + 1;
+            } else {
+                end = middle;
+            }
+        }
+        (c < self.classes && self.number(c) == number).then_some(c)
+    }
+
+    /// The futures of the class with this number, which stand in order of expiry.
+    fn futures<'a>(&'a self, starts: &Starts, number: u32) -> impl Iterator<Item = usize> + 'a {
+        let series = self.class_of(number).map_or(0..0, |c| starts[c]..starts[c + 1]);
+        series.filter(|&s| self.series_type(s) == 1)
+    }
+
     fn check(&self) -> Option<(u64, usize)> {
         const PRICE: u32 = 500_000_000;
         for c in 0..self.classes {
@@ -196,6 +216,59 @@ pub fn net_pairs(batch: &[u32], table: &mut [[i64; 2]; NETS]) {
     }
 }
 
+/// Where the series of each class begin, and where all end.
+type Starts = [usize; 65];
+
+/// Rows 50 and 51.
+fn check_deposits(day: &Day, starts: &Starts, deposits: &[u32]) -> Option<(u64, usize)> {
+    if deposits.len() % 2 != 0 {
+        return Some((50, 0));
+    }
+    let mut named = 0u64;
+    for (i, d) in deposits.chunks_exact(2).enumerate() {
+        if day.class_of(d[0]).is_none() || named >> d[0] & 1 == 1 || d[1] > 10_000_000 {
+            return Some((50, i));
+        }
+        named |= 1 << d[0];
+    }
+    for (i, d) in deposits.chunks_exact(2).enumerate() {
+        let mut futures = day.futures(starts, d[0]);
+        if let Some(first) = futures.next() {
+            if futures.any(|s| day.one(s, 1) != day.one(first, 1)) {
+                return Some((51, i));
+            }
+        }
+    }
+    None
+}
+
+/// The contracts that deposits cover taken from the net shorts of the ordinary book.
+fn cover(day: &Day, starts: &Starts, deposits: &[u32], nets: &mut [i64; NETS]) {
+    if deposits.is_empty() {
+        return;
+    }
+    // net and place of each; a further expiry stands behind a nearer one
+    let mut shorts = [(0, 0); 256];
+    for d in deposits.chunks_exact(2) {
+        let mut count = 0;
+        for s in day.futures(starts, d[0]).filter(|&s| nets[s] > 0) {
+            shorts[count] = (nets[s], s);
+            count += 1;
+        }
+        if count == 0 {
+            continue;
+        }
+        let shorts = &mut shorts[..count];
+        shorts.sort_unstable();
+        let mut left = i64::from(d[1] / day.one(shorts[0].1, 1));
+        for &(net, s) in shorts.iter().rev() {
+            let taken = net.min(left);
+            nets[s] -= taken;
+            left -= taken;
+        }
+    }
+}
+
 #[derive(Default)]
 struct Sums {
     spread: i64,
@@ -278,7 +351,7 @@ fn put_amount(out: &mut [u32], z: i64) {
 }
 
 /// The call over words: number × 2^32 + value.
-pub fn call_words(day: &[u32], batch: &[u32], memory: &mut [u32]) -> u64 {
+pub fn call_words(day: &[u32], batch: &[u32], deposits: &[u32], memory: &mut [u32]) -> u64 {
     let header = day.first().copied().unwrap_or(0);
     let (classes, series) = ((header & 127) as usize, (header >> 7 & 511) as usize);
     if kind(header) != 1 || payload(header) >> 16 != 0 || classes > 64 || series > 256 {
@@ -310,13 +383,16 @@ pub fn call_words(day: &[u32], batch: &[u32], memory: &mut [u32]) -> u64 {
             return answer(30, r);
         }
     }
-    let mut starts = [series; 65];
+    let mut starts: Starts = [series; 65];
     let mut s = 0;
     for c in 0..classes {
         while s < series && day.one(s, 0) >> 23 < day.number(c) {
             s += 1;
         }
         starts[c] = s;
+    }
+    if let Some((number, place)) = check_deposits(&day, &starts, deposits) {
+        return answer(number, place);
     }
     let mut maps = [0u32; 2];
     for (book, map) in maps.iter_mut().enumerate() {
@@ -335,6 +411,7 @@ pub fn call_words(day: &[u32], batch: &[u32], memory: &mut [u32]) -> u64 {
     if memory.len() < needed {
         return answer(40, needed);
     }
+    cover(&day, &starts, deposits, &mut nets);
     memory[0] = 1 << 29 | lines as u32;
     memory[1] = 4 << 29 | maps[0];
     memory[2] = 4 << 29 | maps[1];
@@ -390,7 +467,7 @@ pub fn call(day: &[u8], batch: &[u8], memory: &mut [u8]) -> u64 {
     decode(day, &mut day_words);
     decode(batch, &mut batch_words);
     let room = (memory.len() / 4).min(1115);
-    let r = call_words(&day_words[..day.len() / 4], &batch_words[..batch.len() / 4], &mut report[..room]);
+    let r = call_words(&day_words[..day.len() / 4], &batch_words[..batch.len() / 4], &[], &mut report[..room]);
     if r >> 32 == 0 {
         for (w, b) in report[..r as usize].iter().zip(memory.chunks_exact_mut(4)) {
             b.copy_from_slice(&w.to_le_bytes());

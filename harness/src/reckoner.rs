@@ -1,5 +1,6 @@
 //! The scope as plain Rust: records and maps, 128-bit amounts, nothing shared with the unit.
 use crate::layout::{class_at, series_at, CLASS_WORDS, LONGEST_DAY, SERIES_WORDS};
+use std::cmp::Reverse;
 use std::collections::BTreeMap;
 
 /// A refusal: its number and place.
@@ -65,6 +66,12 @@ pub struct Record {
     pub long: i128,
     pub short: i128,
     pub dvp: i128,
+}
+
+#[derive(Clone, Debug)]
+pub struct Deposit {
+    pub class_number: u32,
+    pub shares: i128,
 }
 
 fn is_option(t: u32) -> bool {
@@ -193,6 +200,16 @@ pub fn read_day(day: &[u32]) -> Result<DayFile, Refusal> {
     Ok(DayFile { classes, series })
 }
 
+impl DayFile {
+    /// The places of a class's futures, in order of expiry.
+    fn futures(&self, class_number: u32) -> Vec<usize> {
+        let is_own = |s: &usize| self.series[*s].class_number == class_number && self.series[*s].series_type == 1;
+        let mut own: Vec<usize> = (0..self.series.len()).filter(is_own).collect();
+        own.sort_by_key(|&s| self.series[s].expiry);
+        own
+    }
+}
+
 /// The sign bit and the magnitude of a record's DVP amount.
 fn dvp(w: &[u32]) -> (bool, i128) {
     let first = payload(w[3]);
@@ -286,6 +303,48 @@ fn net(records: &[Record]) -> BTreeMap<Key, Position> {
     positions
 }
 
+/// Rows 50 and 51.
+pub fn read_deposits(day: &DayFile, words: &[u32]) -> Result<Vec<Deposit>, Refusal> {
+    if words.len() % 2 != 0 {
+        return refuse(50, 0);
+    }
+    let mut deposits: Vec<Deposit> = Vec::new();
+    for (i, w) in words.chunks(2).enumerate() {
+        let known = day.classes.iter().any(|class| class.number == w[0]);
+        let named = deposits.iter().any(|d| d.class_number == w[0]);
+        if !known || named || w[1] > 10_000_000 {
+            return refuse(50, i);
+        }
+        deposits.push(Deposit { class_number: w[0], shares: w[1] as i128 });
+    }
+    let multiplier = |s: usize| day.series[s].multiplier;
+    let unlike = |d: &Deposit| day.futures(d.class_number).windows(2).any(|w| multiplier(w[0]) != multiplier(w[1]));
+    match deposits.iter().position(unlike) {
+        Some(i) => refuse(51, i),
+        None => Ok(deposits),
+    }
+}
+
+/// The positions with each deposit's contracts taken from its class's net short futures in the ordinary book: from the largest net on,
+/// among equals from the further expiry, each used up before the next.
+fn covered(day: &DayFile, positions: &BTreeMap<Key, Position>, deposits: &[Deposit]) -> BTreeMap<Key, Position> {
+    let mut out = positions.clone();
+    for deposit in deposits {
+        let futures = day.futures(deposit.class_number);
+        let net_of = |s: usize| positions.get(&(s, false, false)).map_or(0, |p| p.net);
+        let mut shorts: Vec<usize> = futures.into_iter().filter(|&s| net_of(s) > 0).collect();
+        shorts.sort_by_key(|&s| Reverse((net_of(s), day.series[s].expiry)));
+        let mut shares = deposit.shares;
+        for s in shorts {
+            let multiplier = day.series[s].multiplier;
+            let contracts = net_of(s).min(shares / multiplier);
+            shares -= contracts * multiplier;
+            out.entry((s, false, false)).or_default().net -= contracts;
+        }
+    }
+    out
+}
+
 /// One line: the six amounts of a group in a book.
 #[derive(Clone, Debug, PartialEq, Eq)]
 pub struct Line {
@@ -337,8 +396,7 @@ fn line(day: &DayFile, positions: &BTreeMap<Key, Position>, fail: bool, group: u
     let mut points = [0i128; 10];
     for class in day.classes.iter().filter(|c| c.group == group) {
         let own: Vec<usize> = (0..day.series.len()).filter(|&s| day.series[s].class_number == class.number).collect();
-        let mut futures: Vec<usize> = own.iter().copied().filter(|&s| day.series[s].series_type == 1).collect();
-        futures.sort_by_key(|&s| day.series[s].expiry);
+        let futures = day.futures(class.number);
         let nets: Vec<i128> = futures.iter().map(|&s| at(s, false).net).collect();
         let (margin, rest) = spread(&nets, class);
         spreads += margin;
@@ -381,8 +439,13 @@ fn line(day: &DayFile, positions: &BTreeMap<Key, Position>, fail: bool, group: u
     [spreads, mtm, premium, requirement, sum.max(0), (-sum).max(0)]
 }
 
-/// The report of two files, or the row that refuses them (all rows above 40).
+/// The report of two files without deposits, or the row that refuses them (all rows but 40).
 pub fn reckon(day: &[u32], batch: &[u32]) -> Result<Report, Refusal> {
+    reckon_with(day, batch, &[])
+}
+
+/// The report of two files with these deposits, or the row that refuses them (all rows but 40).
+pub fn reckon_with(day: &[u32], batch: &[u32], deposits: &[u32]) -> Result<Report, Refusal> {
     let day = read_day(day)?;
     let records = read_batch(&day, batch)?;
     let positions = net(&records);
@@ -392,6 +455,7 @@ pub fn reckon(day: &[u32], batch: &[u32]) -> Result<Report, Refusal> {
             return refuse(30, i);
         }
     }
+    let covered = covered(&day, &positions, &read_deposits(&day, deposits)?);
     let mut lines = Vec::new();
     let mut totals = [0i128; 3];
     for (book, fail) in [(0, false), (1, true)] {
@@ -401,7 +465,7 @@ pub fn reckon(day: &[u32], batch: &[u32]) -> Result<Report, Refusal> {
                 f == fail && (p.net != 0 || p.dvp != 0) && day.classes.iter().any(|c| c.number == number && c.group == group)
             });
             if held {
-                let amounts = line(&day, &positions, fail, group);
+                let amounts = line(&day, &covered, fail, group);
                 totals[book] += amounts[4];
                 lines.push(Line { fail, group, amounts });
             }
@@ -452,8 +516,8 @@ pub fn text(result: &Result<Report, Refusal>) -> String {
 }
 
 /// The call over words: the answer, and the memory written where it is a report.
-pub fn call_words(day: &[u32], batch: &[u32], memory: &mut [u32]) -> Result<usize, Refusal> {
-    let report = words(&reckon(day, batch)?);
+pub fn call_words(day: &[u32], batch: &[u32], deposits: &[u32], memory: &mut [u32]) -> Result<usize, Refusal> {
+    let report = words(&reckon_with(day, batch, deposits)?);
     if report.len() > memory.len() {
         return refuse(40, report.len());
     }
@@ -478,7 +542,7 @@ pub fn call_bytes(day: &[u8], batch: &[u8], memory: &mut [u8]) -> Result<usize, 
         return refuse(2, 0);
     }
     let mut words = to_words(memory);
-    let n = call_words(&to_words(day), &to_words(batch), &mut words)?;
+    let n = call_words(&to_words(day), &to_words(batch), &[], &mut words)?;
     memory[..4 * n].copy_from_slice(&to_bytes(&words[..n]));
     Ok(n)
 }

@@ -69,3 +69,22 @@ pub fn cases(request: &str, count: usize) -> Vec<Case> {
     assert_eq!(out.len(), count, "{request}");
     out
 }
+
+/// The cases of the call over words; those from before U5 have no deposits.
+pub fn reports() -> Vec<Case> {
+    let mut out = cases("U03", 67);
+    out.extend(cases("U04", 58));
+    for case in &mut out {
+        assert!(case.fields.insert("deposits".to_string(), Vec::new()).is_none(), "{}: deposits", case.name);
+    }
+    out.extend(cases("U05", 81));
+    out
+}
+
+/// Makes a call over words of such a case: day file, batch, deposits and memory. Its answer and memory must be the case's.
+pub fn check_report(case: &Case, call: impl FnOnce(&[u32], &[u32], &[u32], &mut [u32]) -> Result<usize, Refusal>) {
+    let mut memory = case.lent("memory");
+    let answer = call(&case.words("day"), &case.words("batch"), &case.words("deposits"), &mut memory);
+    assert_eq!(numbers(answer), case.answer(), "{}", case.name);
+    assert_eq!(memory, case.memory_after(), "{}", case.name);
+}

@@ -5,6 +5,16 @@ use crate::text_reading::Said;
 extern "C" {
     fn mars_report(day: *const u8, day_len: usize, batch: *const u8, batch_len: usize, report: *mut u8, report_len: usize)
         -> u64;
+    fn mars_report_words(
+        day: *const u32,
+        day_len: usize,
+        batch: *const u32,
+        batch_len: usize,
+        deposits: *const u32,
+        deposits_len: usize,
+        report: *mut u32,
+        report_len: usize,
+    ) -> u64;
     fn mars_reports(
         day: *const u32,
         day_len: usize,
@@ -34,6 +44,24 @@ fn parts(result: u64) -> Result<usize, Refusal> {
 pub fn call(day: &[u8], batch: &[u8], memory: &mut [u8]) -> Result<usize, Refusal> {
     // The byte call has no precondition: any three byte slices may be lent.
     parts(unsafe { mars_report(day.as_ptr(), day.len(), batch.as_ptr(), batch.len(), memory.as_mut_ptr(), memory.len()) })
+}
+
+/// The call over words: the report's length in words, or the refusal.
+pub fn call_words(day: &[u32], batch: &[u32], deposits: &[u32], memory: &mut [u32]) -> Result<usize, Refusal> {
+    let room = memory.len();
+    // No precondition: any three slices of words to read and any one to write, which overlaps none of them.
+    parts(unsafe {
+        mars_report_words(
+            day.as_ptr(),
+            day.len(),
+            batch.as_ptr(),
+            batch.len(),
+            deposits.as_ptr(),
+            deposits.len(),
+            memory.as_mut_ptr(),
+            room,
+        )
+    })
 }
 
 /// All accounts in one call: the words written in all, or row 60 or 61.

@@ -1,8 +1,14 @@
 //! The benchmark's baseline against the reckoner: the same answers and memories.
 use harness::accounts::{accepted, account, damage, mixed};
+use harness::deposits::mixed_case;
 use harness::plain::{self, NETS};
-use harness::reckoner::{call_bytes, to_bytes};
+use harness::reckoner::{call_bytes, call_words, to_bytes, Refusal};
 use harness::rng::Rng;
+
+/// An answer as the unit's calls give it.
+fn packed(answer: Result<usize, Refusal>) -> u64 {
+    answer.map_or_else(|r| u64::from(r.number) << 32 | r.place as u64, |n| n as u64)
+}
 
 #[test]
 fn baseline_agrees_with_the_reckoner() {
@@ -15,11 +21,21 @@ fn baseline_agrees_with_the_reckoner() {
         let (day, batch) = (to_bytes(&a.day), to_bytes(&a.batch));
         let room = if i % 7 == 0 { rng.below(600) as usize } else { 4460 };
         let (mut ours, mut theirs) = (vec![0xa5; room], vec![0xa5; room]);
-        let expected = match call_bytes(&day, &batch, &mut theirs) {
-            Ok(n) => n as u64,
-            Err(r) => u64::from(r.number) << 32 | r.place as u64,
-        };
+        let expected = packed(call_bytes(&day, &batch, &mut theirs));
         assert_eq!(plain::call(&day, &batch, &mut ours), expected, "case {i}");
+        assert_eq!(ours, theirs, "case {i}");
+    }
+}
+
+#[test]
+fn baseline_agrees_with_the_reckoner_on_deposits() {
+    let mut rng = Rng::new(9);
+    for i in 0..6000 {
+        let (a, deposits) = mixed_case(&mut rng, i);
+        let room = if i % 7 == 0 { rng.below(150) as usize } else { 1115 };
+        let (mut ours, mut theirs) = (vec![7; room], vec![7; room]);
+        let expected = packed(call_words(&a.day, &a.batch, &deposits, &mut theirs));
+        assert_eq!(plain::call_words(&a.day, &a.batch, &deposits, &mut ours), expected, "case {i}");
         assert_eq!(ours, theirs, "case {i}");
     }
 }

@@ -8,6 +8,7 @@ use model::BatchWordsFault;
 use model::BytesFault;
 use model::Check;
 use model::ClassFault;
+use model::NettingFault;
 use model::PositionFault;
 use model::SeriesFault;
 
@@ -44,7 +45,11 @@ pub fn number(check: Check) -> u32
             PositionFault::FailNonSecurity => 25,
             PositionFault::DvpNonSecurity => 26,
         },
-        Check::Netting(_, _) => 30,
+        Check::Netting(f, _) => match f {
+            NettingFault::NetTooLarge => 30,
+            NettingFault::BadDeposit => 50,
+            NettingFault::UnlikeMultipliers => 51,
+        },
         Check::Report(_, _) => 40,
         Check::Accounts(f, _) => match f {
             AccountsFault::BadLengths => 60,

@@ -29,12 +29,13 @@ struct Progress {
     total: i64,
 }
 
-// Group g: its line, if it has one, and its margin.
+// Group g: its line, if it has one, and its margin. Whether it has one goes by `nets`, its amounts by `after`.
 fn write_group(
     p: Progress,
     day: &[u32],
     starts: &[usize; STARTS],
     nets: &[i64],
+    after: &[i64],
     dvps: &[i64],
     book: u32,
     map: u32,
@@ -42,21 +43,21 @@ fn write_group(
     memory: &mut [u32],
 ) -> Progress
     requires { ⌜ DayRows (now day) ⌝ }
-    requires { ⌜ Budget (now day) (entry (now nets)) (entry (now dvps)) ⌝ }
+    requires { ⌜ Budget (now day) (entry (now after)) (entry (now dvps)) ⌝ }
     requires { ⌜ (book < 2) × (g < groupCount) ⌝ }
     requires { ⌜ now starts ≡ startTable (now day) ⌝ }
     requires { ⌜ map ≡ bookMap (now day) (entry (now nets)) (entry (now dvps)) book ⌝ }
-    requires { ⌜ (p .at ≤ 10000) × (p .at + length (oneLine (now day) (entry (now nets)) (entry (now nets)) (entry (now dvps)) book g) ≤ length (now memory)) ⌝ }
-    requires { ⌜ p .total ≡ sumWhere g (hasLine (now day) (entry (now nets)) (entry (now dvps)) book) (margin (now day) (entry (now nets)) (entry (now dvps)) book) ⌝ }
-    ensures { λ r. ⌜ r .at ≡ p .at + length (oneLine (now (day .entry)) (entry (now (nets .entry))) (entry (now (nets .entry))) (entry (now (dvps .entry))) book g) ⌝ }
-    ensures { λ r. ⌜ r .total ≡ sumWhere (g + 1) (hasLine (now (day .entry)) (entry (now (nets .entry))) (entry (now (dvps .entry))) book) (margin (now (day .entry)) (entry (now (nets .entry))) (entry (now (dvps .entry))) book) ⌝ }
-    ensures { λ _. ⌜ now (memory .exit) ≡ put (p .at) (oneLine (now (day .entry)) (entry (now (nets .entry))) (entry (now (nets .entry))) (entry (now (dvps .entry))) book g) (now (memory .entry)) ⌝ }
+    requires { ⌜ (p .at ≤ 10000) × (p .at + length (oneLine (now day) (entry (now nets)) (entry (now after)) (entry (now dvps)) book g) ≤ length (now memory)) ⌝ }
+    requires { ⌜ p .total ≡ sumWhere g (hasLine (now day) (entry (now nets)) (entry (now dvps)) book) (margin (now day) (entry (now after)) (entry (now dvps)) book) ⌝ }
+    ensures { λ r. ⌜ r .at ≡ p .at + length (oneLine (now (day .entry)) (entry (now (nets .entry))) (entry (now (after .entry))) (entry (now (dvps .entry))) book g) ⌝ }
+    ensures { λ r. ⌜ r .total ≡ sumWhere (g + 1) (hasLine (now (day .entry)) (entry (now (nets .entry))) (entry (now (dvps .entry))) book) (margin (now (day .entry)) (entry (now (after .entry))) (entry (now (dvps .entry))) book) ⌝ }
+    ensures { λ _. ⌜ now (memory .exit) ≡ put (p .at) (oneLine (now (day .entry)) (entry (now (nets .entry))) (entry (now (after .entry))) (entry (now (dvps .entry))) book g) (now (memory .entry)) ⌝ }
 {
     if (map >> g) % 2 != 1 {
         return p;
     }
     let at = p.at;
-    let line = group_line(day, starts, nets, dvps, index(book), index(g));
+    let line = group_line(day, starts, after, dvps, index(book), index(g));
     let amounts = [
         line.spread,
         line.mtm,
@@ -72,11 +73,12 @@ fn write_group(
     }
 }
 
-// The lines of a book from word `at` on; its total.
+// The lines of a book from word `at` on; its total. Which groups have one goes by `nets`, the amounts by `after`.
 pub fn write_book(
     day: &[u32],
     starts: &[usize; STARTS],
     nets: &[i64],
+    after: &[i64],
     dvps: &[i64],
     book: u32,
     map: u32,
@@ -84,18 +86,18 @@ pub fn write_book(
     at: usize,
 ) -> i64
     requires { ⌜ DayRows (now day) ⌝ }
-    requires { ⌜ Budget (now day) (entry (now nets)) (entry (now dvps)) ⌝ }
+    requires { ⌜ Budget (now day) (entry (now after)) (entry (now dvps)) ⌝ }
     requires { ⌜ book < 2 ⌝ }
     requires { ⌜ now starts ≡ startTable (now day) ⌝ }
     requires { ⌜ map ≡ bookMap (now day) (entry (now nets)) (entry (now dvps)) book ⌝ }
     requires { ⌜ (at ≤ 5000) × (at + wordsALine * ones map ≤ length (now memory)) ⌝ }
-    ensures { λ r. ⌜ r ≡ total (now (day .entry)) (entry (now (nets .entry))) (entry (now (nets .entry))) (entry (now (dvps .entry))) book ⌝ }
-    ensures { λ _. ⌜ now (memory .exit) ≡ put at (bookLines (now (day .entry)) (entry (now (nets .entry))) (entry (now (nets .entry))) (entry (now (dvps .entry))) book) (now (memory .entry)) ⌝ }
+    ensures { λ r. ⌜ r ≡ total (now (day .entry)) (entry (now (nets .entry))) (entry (now (after .entry))) (entry (now (dvps .entry))) book ⌝ }
+    ensures { λ _. ⌜ now (memory .exit) ≡ put at (bookLines (now (day .entry)) (entry (now (nets .entry))) (entry (now (after .entry))) (entry (now (dvps .entry))) book) (now (memory .entry)) ⌝ }
 {
     let mut p = Progress { at: at, total: 0 };
     let mut g: u32 = 0;
     while g < GROUPS {
-        p = write_group(p, day, starts, nets, dvps, book, map, g, memory);
+        p = write_group(p, day, starts, nets, after, dvps, book, map, g, memory);
         g = g + 1;
     }
     p.total

@@ -1,6 +1,6 @@
 -- The byte call stage by stage: rows 1 and 2, then the call over words.
 use mathlib.Core.Path.{_≡_, ap}
-use mathlib.Core.List.{List}
+use mathlib.Core.List.{List, []}
 use Prim.Native.Nat.{ℕ, _/_}
 use lib.ListN.{length}
 use Rattle.model.specs.declared.Answer.{Answer}
@@ -15,10 +15,10 @@ module _ (day batch : List ℕ) (room : ℕ) where
   unfolding byteAnswer
   bytes-refused k e = rw e
 
-  pub words-answer : bytesCheck day batch ≡ Passed → answer (wordsOf day) (wordsOf batch) (room / 4) ≡ byteAnswer day batch room
+  pub words-answer : bytesCheck day batch ≡ Passed → answer (wordsOf day) (wordsOf batch) [] (room / 4) ≡ byteAnswer day batch room
   unfolding byteAnswer
   words-answer e = rw e
 
-pub bytes-of : (day batch m : List ℕ) (r : Answer) → r ≡ byteAnswer day batch (length m) → writtenBytes r (report (wordsOf day) (wordsOf batch)) m ≡ bytesAfter day batch m
+pub bytes-of : (day batch m : List ℕ) (r : Answer) → r ≡ byteAnswer day batch (length m) → writtenBytes r (report (wordsOf day) (wordsOf batch) []) m ≡ bytesAfter day batch m
 unfolding bytesAfter
-bytes-of day batch m r e = ap (λ (a : Answer). writtenBytes a (report (wordsOf day) (wordsOf batch)) m) e
+bytes-of day batch m r e = ap (λ (a : Answer). writtenBytes a (report (wordsOf day) (wordsOf batch) []) m) e

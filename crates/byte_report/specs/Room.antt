@@ -14,7 +14,7 @@ use Rattle.model.specs.declared.Answer.the-variants.{Report}
 use Rattle.model.proofs.Length.{report-length}
 use Rattle.model.specs.Report.{longestReport}
 use Rattle.model.specs.Netting.{net, dvp}
-use Rattle.model.specs.Calls.{verdict, answer, answerOf, roomAnswer, needed, report, memoryAfter}
+use Rattle.model.specs.Calls.{verdict, netAfter, answer, answerOf, roomAnswer, needed, report, memoryAfter}
 use Rattle.model.proofs.Outcome.{answer-report, needed-most}
 use Rattle.model.specs.Bytes.{wordsOf}
 use Rattle.model.proofs.ByteWords.{words-length}
@@ -28,22 +28,22 @@ same-room n room h = by (decLe longestReport room)
     by (yes p) = rw (le-ltb room longestReport p, le-leb n longestReport h, le-leb n room (omega arith))
     by (no p) = rw (lt-ltb room longestReport (omega arith))
 
-pub answer-room : (d b : List ℕ) (len : ℕ) → answer d b (roomOf len) ≡ answer d b (len / 4)
+pub answer-room : (d b x : List ℕ) (len : ℕ) → answer d b x (roomOf len) ≡ answer d b x (len / 4)
 unfolding answer
-answer-room d b len = ap (answerOf (verdict d b)) (same-room (needed d b) (len / 4) (needed-most d b))
+answer-room d b x len = ap (answerOf (verdict d b x)) (same-room (needed d b) (len / 4) (needed-most d b))
 
 -- ---- a report in its memory
 
 -- an answer that is a report has room for it, and its length is the report's
-pub answer-fits : (d b : List ℕ) (room n : ℕ) → answer d b room ≡ Report n → (n ≤ room) × (n ≡ length (report d b))
-answer-fits d b room n e =
-    let z = answer-report d b room n e in
-    (omega (arith, z .1, z .2), z .1 ∙ sym (report-length d (net b) (net b) (dvp b)))
+pub answer-fits : (d b x : List ℕ) (room n : ℕ) → answer d b x room ≡ Report n → (n ≤ room) × (n ≡ length (report d b x))
+answer-fits d b x room n e =
+    let z = answer-report d b x room n e in
+    (omega (arith, z .1, z .2), z .1 ∙ sym (report-length d (net b) (netAfter d b x) (dvp b)))
 
 -- the report's words are the front of the memory after it
-pub report-front : (d b m : List ℕ) (n : ℕ) → answer d b (length m) ≡ Report n → take n (memoryAfter d b m) ≡ report d b
+pub report-front : (d b x m : List ℕ) (n : ℕ) → answer d b x (length m) ≡ Report n → take n (memoryAfter d b x m) ≡ report d b x
 unfolding memoryAfter
-report-front d b m n e = rw e (take-at (report d b) (drop n m) n (sym (answer-fits d b (length m) n e .1)))
+report-front d b x m n e = rw e (take-at (report d b x) (drop n m) n (sym (answer-fits d b x (length m) n e .1)))
 
 -- the words of a file, read from the front of the memory x that they were written into
 pub front-words : (bytes l x : List ℕ) → x ≡ put 0 (wordsOf bytes) l → take (length bytes / 4) x ≡ wordsOf bytes

@@ -1,5 +1,6 @@
-// The byte call: the report of two files given as bytes, words low byte first, into a memory of bytes.
+// The byte call: the report of two files given as bytes, words low byte first, into a memory of bytes. It passes no deposits.
 ghost use mathlib.Core.Path.{_≡_};
+ghost use mathlib.Core.List.{[]};
 ghost use Prim.Native.Nat.{_*_, _/_, _≤_};
 ghost use lib.ListN.{length, take};
 ghost use Rattle.model.specs.Bytes.{byteAnswer, bytesAfter, wordsOf, writtenBytes, longestDay, longestBatch};
@@ -16,13 +17,13 @@ use byte_words::decode;
 use model::Answer;
 use model::Verdict;
 
-// The report of two files of words, its words in `words` and then its bytes in the memory.
+// The report of two files of words and no deposits, its words in `words` and then its bytes in the memory.
 fn report_words(day: &[u32], batch: &[u32], words: &mut [u32], memory: &mut [u8]) -> Answer
     requires { ⌜ length (now words) ≡ roomOf (length (now memory)) ⌝ }
-    ensures { λ r. ⌜ r ≡ answerTo (now (day .entry)) (now (batch .entry)) (length (now (memory .entry)) / 4) ⌝ }
-    ensures { λ r. ⌜ now (memory .exit) ≡ writtenBytes r (reportOf (now (day .entry)) (now (batch .entry))) (now (memory .entry)) ⌝ }
+    ensures { λ r. ⌜ r ≡ answerTo (now (day .entry)) (now (batch .entry)) [] (length (now (memory .entry)) / 4) ⌝ }
+    ensures { λ r. ⌜ now (memory .exit) ≡ writtenBytes r (reportOf (now (day .entry)) (now (batch .entry)) []) (now (memory .entry)) ⌝ }
 {
-    let answer = report::report(day, batch, words);
+    let answer = report::report(day, batch, &day[..0], words);
     if let Answer::Report(n) = answer {
         encode_front(words, n, memory);
     }
@@ -40,8 +41,8 @@ fn report_decoded(
     requires { ⌜ (length (now day) ≤ 4 * length (now file)) × (length (now batch) ≤ 4 * length (now positions)) ⌝ }
     requires { ⌜ take (length (now day) / 4) (now file) ≡ wordsOf (now day) ⌝ }
     requires { ⌜ take (length (now batch) / 4) (now positions) ≡ wordsOf (now batch) ⌝ }
-    ensures { λ r. ⌜ r ≡ answerTo (wordsOf (now (day .entry))) (wordsOf (now (batch .entry))) (length (now (memory .entry)) / 4) ⌝ }
-    ensures { λ r. ⌜ now (memory .exit) ≡ writtenBytes r (reportOf (wordsOf (now (day .entry))) (wordsOf (now (batch .entry)))) (now (memory .entry)) ⌝ }
+    ensures { λ r. ⌜ r ≡ answerTo (wordsOf (now (day .entry))) (wordsOf (now (batch .entry))) [] (length (now (memory .entry)) / 4) ⌝ }
+    ensures { λ r. ⌜ now (memory .exit) ≡ writtenBytes r (reportOf (wordsOf (now (day .entry))) (wordsOf (now (batch .entry))) []) (now (memory .entry)) ⌝ }
 {
     let mut words = [0u32; LONGEST_REPORT];
     let days = day.len() / 4;
@@ -66,8 +67,8 @@ fn decode_front(bytes: &[u8], words: &mut [u32])
 // Files of whole words, no longer than their longest form.
 fn report_large(day: &[u8], batch: &[u8], memory: &mut [u8]) -> Answer
     requires { ⌜ (length (now day) ≤ 4 * longestDay) × (length (now batch) ≤ 4 * longestBatch) ⌝ }
-    ensures { λ r. ⌜ r ≡ answerTo (wordsOf (now (day .entry))) (wordsOf (now (batch .entry))) (length (now (memory .entry)) / 4) ⌝ }
-    ensures { λ r. ⌜ now (memory .exit) ≡ writtenBytes r (reportOf (wordsOf (now (day .entry))) (wordsOf (now (batch .entry)))) (now (memory .entry)) ⌝ }
+    ensures { λ r. ⌜ r ≡ answerTo (wordsOf (now (day .entry))) (wordsOf (now (batch .entry))) [] (length (now (memory .entry)) / 4) ⌝ }
+    ensures { λ r. ⌜ now (memory .exit) ≡ writtenBytes r (reportOf (wordsOf (now (day .entry))) (wordsOf (now (batch .entry))) []) (now (memory .entry)) ⌝ }
 {
     let mut file = [0u32; LONGEST_DAY];
     let mut positions = [0u32; LONGEST_BATCH];
@@ -84,8 +85,8 @@ const SMALL_BATCH: usize = 512;
 // The same of small ones.
 fn report_small(day: &[u8], batch: &[u8], memory: &mut [u8]) -> Answer
     requires { ⌜ (length (now day) ≤ 4 * smallDay) × (length (now batch) ≤ 4 * smallBatch) ⌝ }
-    ensures { λ r. ⌜ r ≡ answerTo (wordsOf (now (day .entry))) (wordsOf (now (batch .entry))) (length (now (memory .entry)) / 4) ⌝ }
-    ensures { λ r. ⌜ now (memory .exit) ≡ writtenBytes r (reportOf (wordsOf (now (day .entry))) (wordsOf (now (batch .entry)))) (now (memory .entry)) ⌝ }
+    ensures { λ r. ⌜ r ≡ answerTo (wordsOf (now (day .entry))) (wordsOf (now (batch .entry))) [] (length (now (memory .entry)) / 4) ⌝ }
+    ensures { λ r. ⌜ now (memory .exit) ≡ writtenBytes r (reportOf (wordsOf (now (day .entry))) (wordsOf (now (batch .entry))) []) (now (memory .entry)) ⌝ }
 {
     let mut file = [0u32; SMALL_DAY];
     let mut positions = [0u32; SMALL_BATCH];
@@ -97,8 +98,8 @@ fn report_small(day: &[u8], batch: &[u8], memory: &mut [u8]) -> Answer
 // Files of whole words, no longer than their longest form, in memory for their size.
 fn report_bytes(day: &[u8], batch: &[u8], memory: &mut [u8]) -> Answer
     requires { ⌜ (length (now day) ≤ 4 * longestDay) × (length (now batch) ≤ 4 * longestBatch) ⌝ }
-    ensures { λ r. ⌜ r ≡ answerTo (wordsOf (now (day .entry))) (wordsOf (now (batch .entry))) (length (now (memory .entry)) / 4) ⌝ }
-    ensures { λ r. ⌜ now (memory .exit) ≡ writtenBytes r (reportOf (wordsOf (now (day .entry))) (wordsOf (now (batch .entry)))) (now (memory .entry)) ⌝ }
+    ensures { λ r. ⌜ r ≡ answerTo (wordsOf (now (day .entry))) (wordsOf (now (batch .entry))) [] (length (now (memory .entry)) / 4) ⌝ }
+    ensures { λ r. ⌜ now (memory .exit) ≡ writtenBytes r (reportOf (wordsOf (now (day .entry))) (wordsOf (now (batch .entry))) []) (now (memory .entry)) ⌝ }
 {
     if day.len() <= 4 * SMALL_DAY {
         if batch.len() <= 4 * SMALL_BATCH {

@@ -1,4 +1,4 @@
-// One account whose day file and batch passed their own rows: the nets, row 30, the report.
+// One account whose day file and batch passed their own rows: the nets, row 30, then its deposits and the report.
 ghost use mathlib.Core.Path.{_≡_};
 ghost use lib.ListN.{length};
 ghost use Rattle.model.specs.BatchChecks.{batchCheck};
@@ -11,18 +11,19 @@ use model::Answer;
 use model::Verdict;
 use netting::POSITIONS;
 
-// Rows 30 and 40, and the report; `starts` is the table of the classes' first series.
+// Rows 30, 50, 51 and 40, and the report; `starts` is the table of the classes' first series.
 pub fn report_checked(
     day: &[u32],
     starts: &[usize; STARTS],
     batch: &[u32],
+    deposits: &[u32],
     memory: &mut [u32],
 ) -> Answer
     requires { ⌜ dayCheck (now day) ≡ Passed ⌝ }
     requires { ⌜ batchCheck (now day) (now batch) ≡ Passed ⌝ }
     requires { ⌜ now starts ≡ startTable (now day) ⌝ }
-    ensures { λ r. ⌜ r ≡ answer (now (day .entry)) (now (batch .entry)) (length (now (memory .entry))) ⌝ }
-    ensures { λ _. ⌜ now (memory .exit) ≡ memoryAfter (now (day .entry)) (now (batch .entry)) (now (memory .entry)) ⌝ }
+    ensures { λ r. ⌜ r ≡ answer (now (day .entry)) (now (batch .entry)) (now (deposits .entry)) (length (now (memory .entry))) ⌝ }
+    ensures { λ _. ⌜ now (memory .exit) ≡ memoryAfter (now (day .entry)) (now (batch .entry)) (now (deposits .entry)) (now (memory .entry)) ⌝ }
 {
     let mut nets = [0i64; POSITIONS];
     let mut dvps = [0i64; POSITIONS];
@@ -30,5 +31,5 @@ pub fn report_checked(
     if let Verdict::Failed(check) = net_check::check_nets(day, batch, &nets) {
         return Answer::Refused(check);
     }
-    report_writer::report_accepted(day, starts, &nets, &dvps, memory)
+    covered_report::report_covered(day, starts, deposits, &nets, &dvps, memory)
 }

@@ -49,9 +49,9 @@ sixes (suc n) j b e =
     ∙ ap (λ (l : List ℕ). sixAt b j ++ l) (sixes n (j + recordWords) b (omega arith))
     ∙ sym (ap (λ (i : ℕ). drop i b) o ∙ six-off b j (omega arith))
 
-pub batch-is : (d b : List ℕ) → Accepted d b → b ≡ batchHeader b ∷ joined (records b)
-batch-is d b a =
-    let e = batch-length d b (batch-rows d b a .checks) in
+pub batch-is : (d b x : List ℕ) → Accepted d b x → b ≡ batchHeader b ∷ joined (records b)
+batch-is d b x a =
+    let e = batch-length d b (batch-rows d b x a .checks) in
     drop-cons b 0 0 (omega arith) ∙ ap (λ (l : List ℕ). batchHeader b ∷ l) (sym (sixes (recordCount b) 1 b e))
 
 -- ---- a batch made of a header and records of six words each

@@ -12,7 +12,7 @@ use Rattle.model.specs.declared.Answer.{Answer}
 use Rattle.model.specs.declared.Answer.the-variants.{Report, Refused}
 use Rattle.model.specs.declared.Check.{Check}
 use Rattle.model.specs.Netting.{net, dvp}
-use Rattle.model.specs.Calls.{answer, report, memoryAfter, written}
+use Rattle.model.specs.Calls.{answer, report, memoryAfter, written, netAfter}
 use Rattle.model.specs.ManyAccounts.{resultNumbers, wordsIn, pairOf, reportStart, answerFor, memoryTo, resultsTo}
 use Rattle.model.proofs.Length.{report-length}
 use Rattle.model.proofs.Outcome.{answer-by}
@@ -24,18 +24,18 @@ abbrev pub wrote : Answer → List ℕ → List ℕ
 wrote (Report n) w = w
 wrote (Refused k) w = []
 
-wrote-long : (d b : List ℕ) (room : ℕ) → length (wrote (answer d b room) (report d b)) ≡ wordsIn (answer d b room)
-wrote-long d b room =
-    answer-by d b room (λ a. length (wrote a (report d b)) ≡ wordsIn a) (λ h. report-length d (net b) (net b) (dvp b)) (λ c. refl)
+wrote-long : (d b x : List ℕ) (room : ℕ) → length (wrote (answer d b x room) (report d b x)) ≡ wordsIn (answer d b x room)
+wrote-long d b x room =
+    answer-by d b x room (λ a. length (wrote a (report d b x)) ≡ wordsIn a) (λ h. report-length d (net b) (netAfter d b x) (dvp b)) (λ c. refl)
 
 -- the memory after it: what it wrote, then the words that were behind
 wrote-is : (a : Answer) (w m : List ℕ) → written a w m ≡ wrote a w ++ drop (wordsIn a) m
 wrote-is (Report n) w m = refl
 wrote-is (Refused k) w m = refl
 
-after-is : (d b m : List ℕ) (room : ℕ) → length m ≡ room → memoryAfter d b m ≡ wrote (answer d b room) (report d b) ++ drop (wordsIn (answer d b room)) m
+after-is : (d b x m : List ℕ) (room : ℕ) → length m ≡ room → memoryAfter d b x m ≡ wrote (answer d b x room) (report d b x) ++ drop (wordsIn (answer d b x room)) m
 unfolding memoryAfter
-after-is d b m room e = ap (λ (r : ℕ). written (answer d b r) (report d b) m) e ∙ wrote-is (answer d b room) (report d b) m
+after-is d b x m room e = ap (λ (r : ℕ). written (answer d b x r) (report d b x) m) e ∙ wrote-is (answer d b x room) (report d b x) m
 
 -- ---- the calls in turn
 
@@ -46,10 +46,10 @@ each i = true
 module _ (d : List ℕ) (b : ℕ → List ℕ) (m : List ℕ) where
   -- the words that account i writes
   abbrev pub wordsFor : ℕ → List ℕ
-  wordsFor i = wrote (answerFor d b (length m) i) (report d (b i))
+  wordsFor i = wrote (answerFor d b (length m) i) (report d (b i) [])
 
   words-long : (i : ℕ) → length (wordsFor i) ≡ wordsIn (answerFor d b (length m) i)
-  words-long i = wrote-long d (b i) (length m - reportStart d b (length m) i)
+  words-long i = wrote-long d (b i) [] (length m - reportStart d b (length m) i)
 
   -- the reports of the accounts below i, end to end, are as long as the place where the next starts
   reports-long : (i : ℕ) → length (blocks each wordsFor i) ≡ reportStart d b (length m) i
@@ -65,9 +65,9 @@ module _ (d : List ℕ) (b : ℕ → List ℕ) (m : List ℕ) where
       let s = reportStart d b (length m) i in
       let r = blocks each wordsFor i in
       let a = answerFor d b (length m) i in
-      ap (λ (x : List ℕ). take s x ++ memoryAfter d (b i) (drop s x)) (memory-is i)
-      ∙ (λ j. take-at r (drop s m) s (reports-long i) j ++ memoryAfter d (b i) (drop-at r (drop s m) s (reports-long i) j))
-      ∙ ap (λ (x : List ℕ). r ++ x) (after-is d (b i) (drop s m) (length m - s) (length-drop s m) ∙ ap (λ (x : List ℕ). wordsFor i ++ x) (drop-drop (wordsIn a) s m))
+      ap (λ (x : List ℕ). take s x ++ memoryAfter d (b i) [] (drop s x)) (memory-is i)
+      ∙ (λ j. take-at r (drop s m) s (reports-long i) j ++ memoryAfter d (b i) [] (drop-at r (drop s m) s (reports-long i) j))
+      ∙ ap (λ (x : List ℕ). r ++ x) (after-is d (b i) [] (drop s m) (length m - s) (length-drop s m) ∙ ap (λ (x : List ℕ). wordsFor i ++ x) (drop-drop (wordsIn a) s m))
       ∙ sym (append-assoc r (wordsFor i) (drop (s + wordsIn a) m))
 
   -- the words of account k, read from the memory after n calls

@@ -1,6 +1,6 @@
 -- What every call for many accounts does (U1), as a host reads it: each account's two numbers, start and words; what remains.
 use mathlib.Core.Path.{_≡_, refl, sym, ap, _∙_}
-use mathlib.Core.List.{List}
+use mathlib.Core.List.{List, []}
 use Prim.Native.Nat.{ℕ, zero, suc, _+_, _-_, _*_, _≤_, _<_}
 use native.Mathlib.Omega.{arith}
 use borrow.Author.Tests.{ne-eqb}
@@ -94,7 +94,7 @@ in-turn =
       rests = λ d bs ns m k. length-drop (reportStart d (batchOf bs ns) (length m) k) (memoryTo d (batchOf bs ns) m k) ∙ ap (λ (n : ℕ). n - reportStart d (batchOf bs ns) (length m) k) (memory-long d (batchOf bs ns) m k);
       pairs = λ d bs ns rs m k h e. pair-is d bs ns rs m e k h;
       starts = λ d bs ns rs m k h e. start-is d bs ns rs m e k h;
-      reports = λ d bs ns rs m k n h e q. report-is d bs ns rs m e k h ∙ ap (λ (a : Answer). wrote a (report d (batchOf bs ns k))) q;
+      reports = λ d bs ns rs m k n h e q. report-is d bs ns rs m e k h ∙ ap (λ (a : Answer). wrote a (report d (batchOf bs ns k) [])) q;
       refused = λ d bs ns m k c e. refused-start d (batchOf bs ns) (length m) k c e;
       entries = λ d bs ns rs m e. ap (drop (resultNumbers * length ns)) (results-past d bs ns rs (length m) e) ∙ results-behind d (batchOf bs ns) (length m) rs (length ns) (accounts-checked bs ns (length rs) e .list);
       behind = words-behind;

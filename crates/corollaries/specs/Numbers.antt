@@ -1,6 +1,6 @@
 -- The two numbers of an answer, case by case: 0 and the length; 40 and the words needed; a refusal's number and place. The second is below 2 ^ 32.
 use mathlib.Core.Path.{_≡_, refl, sym, subst}
-use mathlib.Core.List.{List}
+use mathlib.Core.List.{List, []}
 use Prim.Native.Nat.{ℕ, _/_, _^_, _≤_, _<_}
 use borrow.Author.Tests.{le-leb, lt-leb}
 use lib.Dec.{leb}
@@ -42,16 +42,16 @@ module _ (n room : ℕ) where
         small = h;
       }
 
-pub numbers : (d b : List ℕ) (room : ℕ) → Numbers (verdict d b) (needed d b) room (answer d b room)
+pub numbers : (d b x : List ℕ) (room : ℕ) → Numbers (verdict d b x) (needed d b) room (answer d b x room)
 unfolding answer
-numbers d b room = numbers-of (needed d b) room (verdict d b) (value-small d b room)
+numbers d b x room = numbers-of (needed d b) room (verdict d b x) (value-small d b x room)
 
 pub byte-numbers : (day b : List ℕ) (room : ℕ)
-    → Numbers (bytesCheck day b orElse verdict (wordsOf day) (wordsOf b)) (needed (wordsOf day) (wordsOf b)) (room / 4) (byteAnswer day b room)
+    → Numbers (bytesCheck day b orElse verdict (wordsOf day) (wordsOf b) []) (needed (wordsOf day) (wordsOf b)) (room / 4) (byteAnswer day b room)
 unfolding byteAnswer answer
 byte-numbers day b room =
     let v : Verdict = bytesCheck day b in
-    let w : Verdict = verdict (wordsOf day) (wordsOf b) in
+    let w : Verdict = verdict (wordsOf day) (wordsOf b) [] in
     let n : ℕ = needed (wordsOf day) (wordsOf b) in
     let e = answer-or v w (roomAnswer n (room / 4)) in
     subst (Numbers (v orElse w) n (room / 4)) (sym e) (numbers-of n (room / 4) (v orElse w) (subst (λ (a : Answer). valueOf a < 2 ^ 32) e (byte-value-small day b room)))

@@ -1,6 +1,6 @@
 -- An edit in one account moves nothing in another's report but its starting place (U1): with enough memory, each account gets what a single call gives it.
 use mathlib.Core.Path.{_≡_, refl, sym, ap, _∙_}
-use mathlib.Core.List.{List}
+use mathlib.Core.List.{List, []}
 use Prim.Native.Nat.{ℕ, zero, suc, _+_, _-_, _*_, _≤_, _<_}
 use native.Mathlib.Decide.{le-ind}
 use native.Mathlib.Omega.{arith}
@@ -28,9 +28,9 @@ free-of : (v : Verdict) (n room : ℕ) → wordsIn (answerOf v (Report n)) ≤ r
 free-of Passed n room h = rw (le-leb n room h)
 free-of (Failed k) n room h = refl
 
-free-answer : (d b : List ℕ) (room : ℕ) → wordsIn (freely d b) ≤ room → answer d b room ≡ freely d b
+free-answer : (d b : List ℕ) (room : ℕ) → wordsIn (freely d b) ≤ room → answer d b [] room ≡ freely d b
 unfolding answer
-free-answer d b room h = free-of (verdict d b) (needed d b) room h
+free-answer d b room h = free-of (verdict d b []) (needed d b) room h
 
 needed-suc : (d : List ℕ) (b : ℕ → List ℕ) (i : ℕ) → neededTo d b (suc i) ≡ neededTo d b i + wordsIn (freely d (b i))
 unfolding neededTo
@@ -52,7 +52,7 @@ module _ (d : List ℕ) (b : ℕ → List ℕ) (room n : ℕ) (r : neededTo d b 
   free-for i h = free-step i h (free-start i (omega arith))
 
 abbrev freeWords : List ℕ → List ℕ → List ℕ
-freeWords d b = wrote (freely d b) (report d b)
+freeWords d b = wrote (freely d b) (report d b [])
 
 module _ (d bs ns rs m : List ℕ) (q : Enough d bs ns rs m) (k : ℕ) (h : k < length ns) where
   free-pair : pairAt d bs ns rs m k ≡ pairOf (freely d (batchOf bs ns k))
@@ -61,11 +61,11 @@ module _ (d bs ns rs m : List ℕ) (q : Enough d bs ns rs m) (k : ℕ) (h : k < 
   free-report : reportAt d bs ns rs m k ≡ freeWords d (batchOf bs ns k)
   free-report =
       report-is d bs ns rs m (q .passed) k h
-      ∙ ap (λ (a : Answer). wrote a (report d (batchOf bs ns k))) (free-for d (batchOf bs ns) (length m) (length ns) (q .room) k h)
+      ∙ ap (λ (a : Answer). wrote a (report d (batchOf bs ns k) [])) (free-for d (batchOf bs ns) (length m) (length ns) (q .room) k h)
 
   -- an accepted account's report
-  pub whole : Accepted d (batchOf bs ns k) → reportAt d bs ns rs m k ≡ report d (batchOf bs ns k)
-  whole e = free-report ∙ ap (λ (v : Verdict). wrote (answerOf v (Report (needed d (batchOf bs ns k)))) (report d (batchOf bs ns k))) e
+  pub whole : Accepted d (batchOf bs ns k) [] → reportAt d bs ns rs m k ≡ report d (batchOf bs ns k) []
+  whole e = free-report ∙ ap (λ (v : Verdict). wrote (answerOf v (Report (needed d (batchOf bs ns k)))) (report d (batchOf bs ns k) [])) e
 
 -- any two calls of which account k has the same batch
 same-batch : (d bs₁ ns₁ rs₁ m₁ bs₂ ns₂ rs₂ m₂ : List ℕ) (k : ℕ) → k < length ns₁ → k < length ns₂ → Enough d bs₁ ns₁ rs₁ m₁ → Enough d bs₂ ns₂ rs₂ m₂

@@ -12,7 +12,7 @@ use Rattle.model.specs.Steps.Lines
 use Rattle.model.specs.Steps.Margin
 use Rattle.model.specs.Steps.Minimum
 use Rattle.model.specs.Report.{wordsOfAmounts, lineWords, lineCount, reportWords}
-use Rattle.model.specs.Calls.{Accepted, needed, report, memoryAfter}
+use Rattle.model.specs.Calls.{Accepted, netAfter, needed, report, memoryAfter}
 use Rattle.model.specs.Reading.{countIn, standsIn, totalIn, amountIn, amountsIn, sixIn}
 use Rattle.model.proofs.Accepted.{DayRows, day-rows}
 use Rattle.model.proofs.Read.{totalOf, count-read, stands-read, line-read, total-read}
@@ -51,5 +51,6 @@ module _ (d : List ℕ) (n u v : ℕ → ℤ) (p : DayRows d) (q : Budget d u v)
         totals = λ i h. total-read d n u v r i h (small-report d n u v p q .totals i h);
       }
 
-pub readable : (d b m : List ℕ) → Accepted d b → needed d b ≤ length m → Readable d (net b) (net b) (dvp b) (memoryAfter d b m)
-readable d b m a h = rw (memory-is d b m a h) (readable-words d (net b) (net b) (dvp b) (day-rows d b a) (accepted-budget d b a) (drop (needed d b) m))
+pub readable : (d b x m : List ℕ) → Accepted d b x → needed d b ≤ length m → Readable d (net b) (netAfter d b x) (dvp b) (memoryAfter d b x m)
+readable d b x m a h =
+    rw (memory-is d b x m a h) (readable-words d (net b) (netAfter d b x) (dvp b) (day-rows d b x a) (accepted-budget d b x a) (drop (needed d b) m))

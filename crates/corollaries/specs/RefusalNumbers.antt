@@ -8,6 +8,7 @@ use Rattle.model.specs.declared.ClassFault.the-variants.{ClassOrder, OffsetDiff
 use Rattle.model.specs.declared.SeriesFault.the-variants.{ClassAbsent, SeriesOrder, BadType}
 use Rattle.model.specs.declared.BatchWordsFault.the-variants.{WrongKind, OutOfRange, MinusZero}
 use Rattle.model.specs.declared.PositionFault.the-variants.{SeriesAbsent, ExercisedNonOption, FailNonSecurity, DvpNonSecurity}
+use Rattle.model.specs.declared.NettingFault.the-variants.{NetTooLarge, BadDeposit, UnlikeMultipliers}
 use Rattle.model.specs.declared.AccountsFault.the-variants.{BadLengths, ShortResults}
 use Rattle.model.specs.Answers.{numberOf}
 
@@ -31,7 +32,9 @@ numbered (Positions SeriesAbsent p) = (omega arith, omega arith)
 numbered (Positions ExercisedNonOption p) = (omega arith, omega arith)
 numbered (Positions FailNonSecurity p) = (omega arith, omega arith)
 numbered (Positions DvpNonSecurity p) = (omega arith, omega arith)
-numbered (Netting f p) = (omega arith, omega arith)
+numbered (Netting NetTooLarge p) = (omega arith, omega arith)
+numbered (Netting BadDeposit p) = (omega arith, omega arith)
+numbered (Netting UnlikeMultipliers p) = (omega arith, omega arith)
 numbered (Check.Report f p) = (omega arith, omega arith)
 numbered (Accounts BadLengths p) = (omega arith, omega arith)
 numbered (Accounts ShortResults p) = (omega arith, omega arith)

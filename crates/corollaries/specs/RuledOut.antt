@@ -1,6 +1,6 @@
 -- What the contract of the call over words rules out, each by an account on which the wrong program differs.
 use mathlib.Core.Path.{_≡_, refl, sym, ap, subst, _∙_}
-use mathlib.Core.List.{List, _++_}
+use mathlib.Core.List.{List, [], _++_}
 use Prim.Native.Nat.{ℕ, _+_, _*_, _^_, _≤_, _<_}
 use native.Mathlib.Omega.{arith}
 use lib.Dec.{lit≤}
@@ -22,21 +22,21 @@ use Rattle.model.specs.Report.{wordsALine}
 
 -- a program: its answer, by the length of the report memory, and the memory that it leaves
 pub record Program : Type 0 where
-  pub answers : List ℕ → List ℕ → ℕ → Answer
-  pub leaves : List ℕ → List ℕ → List ℕ → List ℕ
+  pub answers : List ℕ → List ℕ → List ℕ → ℕ → Answer
+  pub leaves : List ℕ → List ℕ → List ℕ → List ℕ → List ℕ
 
 -- it meets the contract: both are those of specs/Calls, for all inputs
 pub record Meets (p : Program) : Type 0 where
-  pub answered : (d b : List ℕ) (room : ℕ) → p .answers d b room ≡ answer d b room
-  pub left : (d b m : List ℕ) → p .leaves d b m ≡ memoryAfter d b m
+  pub answered : (d b x : List ℕ) (room : ℕ) → p .answers d b x room ≡ answer d b x room
+  pub left : (d b x m : List ℕ) → p .leaves d b x m ≡ memoryAfter d b x m
 
 -- some program does
 pub contract-met : Meets (record { answers = answer; leaves = memoryAfter })
-contract-met = record { answered = λ d b room. refl; left = λ d b m. refl }
+contract-met = record { answered = λ d b x room. refl; left = λ d b x m. refl }
 
--- wherever the files d, b are accepted and the memory m has room, Q holds of them and the memory w that the program leaves
+-- wherever the files d, b are accepted with no deposits and the memory m has room, Q holds of them and the memory w that the program leaves
 abbrev pub OnReports : Program → (List ℕ → List ℕ → List ℕ → List ℕ → Type 0) → Type 0
-OnReports p Q = (d b m : List ℕ) → Accepted d b → needed d b ≤ length m → Q d b m (p .leaves d b m)
+OnReports p Q = (d b m : List ℕ) → Accepted d b [] → needed d b ≤ length m → Q d b m (p .leaves d b [] m)
 
 -- 1 for a report, 0 for a refusal
 abbrev reports : Answer → ℕ
@@ -53,32 +53,32 @@ amountsOfLine w i = take 18 (drop (4 + wordsALine * i) w)
 
 -- ---- the accounts: three lines; two lines; M3's share in two records, one line; M8's net of 1,001
 
-before-reports : reports (answer day before 80) ≡ 1
+before-reports : reports (answer day before [] 80) ≡ 1
 unfolding everything
 before-reports = refl
 
-before-count : countIn (memoryAfter day before memory) ≡ 3
+before-count : countIn (memoryAfter day before [] memory) ≡ 3
 unfolding everything
 before-count = refl
 
 -- the MTM of its first line is a credit, that of its second a debit
-first-sign : getD (amountsOfLine (memoryAfter day before memory) 0) 3 0 ≡ word 5 (2 ^ 28)
+first-sign : getD (amountsOfLine (memoryAfter day before [] memory) 0) 3 0 ≡ word 5 (2 ^ 28)
 unfolding everything
 first-sign = refl
 
-second-sign : getD (amountsOfLine (memoryAfter day before memory) 1) 3 0 ≡ word 5 0
+second-sign : getD (amountsOfLine (memoryAfter day before [] memory) 1) 3 0 ≡ word 5 0
 unfolding everything
 second-sign = refl
 
-first-count : countIn (memoryAfter day (firstRecord before) memory) ≡ 1
+first-count : countIn (memoryAfter day (firstRecord before) [] memory) ≡ 1
 unfolding everything
 first-count = refl
 
-removed-count : countIn (memoryAfter day removed memory) ≡ 2
+removed-count : countIn (memoryAfter day removed [] memory) ≡ 2
 unfolding everything
 removed-count = refl
 
-two-accepted : Accepted share twoRecords
+two-accepted : Accepted share twoRecords []
 unfolding everything
 two-accepted = refl
 
@@ -86,11 +86,11 @@ two-room : needed share twoRecords ≤ length memory
 unfolding everything
 two-room = lit≤ tt
 
-two-count : countIn (memoryAfter share twoRecords memory) ≡ 1
+two-count : countIn (memoryAfter share twoRecords [] memory) ≡ 1
 unfolding everything
 two-count = refl
 
-thirty : statusOf (answer large (largeHeld 1001) 0) ≡ 30
+thirty : statusOf (answer large (largeHeld 1001) [] 0) ≡ 30
 unfolding everything
 thirty = refl
 
@@ -102,13 +102,13 @@ some-needed = lit≤ tt
 
 module _ (p : Program) (meets : Meets p) where
   -- what it leaves after the first account
-  abbrev leavesBefore : p .leaves day before memory ≡ memoryAfter day before memory
-  leavesBefore = meets .left day before memory
+  abbrev leavesBefore : p .leaves day before [] memory ≡ memoryAfter day before [] memory
+  leavesBefore = meets .left day before [] memory
 
   -- it refuses always, with whichever refusals
-  pub not-refusing : ((d b : List ℕ) (room : ℕ) → (k : Check) × (p .answers d b room ≡ Refused k)) → ⊥
+  pub not-refusing : ((d b x : List ℕ) (room : ℕ) → (k : Check) × (p .answers d b x room ≡ Refused k)) → ⊥
   not-refusing h =
-      let z : _≡_ {A = ℕ} 1 0 = sym before-reports ∙ ap reports (sym (meets .answered day before 80) ∙ h day before 80 .1) in
+      let z : _≡_ {A = ℕ} 1 0 = sym before-reports ∙ ap reports (sym (meets .answered day before [] 80) ∙ h day before [] 80 .1) in
       absurd (omega arith)
 
   -- it writes nothing
@@ -121,12 +121,12 @@ module _ (p : Program) (meets : Meets p) where
   pub not-fixed : (r : List ℕ) → OnReports p (λ d b m w. w ≡ r ++ drop (length r) m) → ⊥
   not-fixed r h =
       let e = sym leavesBefore ∙ h day before memory before-accepted before-room in
-      let f = sym (meets .left day removed memory) ∙ h day removed memory removed-accepted removed-room in
+      let f = sym (meets .left day removed [] memory) ∙ h day removed memory removed-accepted removed-room in
       let z : _≡_ {A = ℕ} 3 2 = sym before-count ∙ ap countIn (e ∙ sym f) ∙ removed-count in
       absurd (omega arith)
 
   -- it handles only the first record
-  pub not-first-only : OnReports p (λ d b m w. 1 ≤ recordCount b → w ≡ memoryAfter d (firstRecord b) m) → ⊥
+  pub not-first-only : OnReports p (λ d b m w. 1 ≤ recordCount b → w ≡ memoryAfter d (firstRecord b) [] m) → ⊥
   not-first-only h =
       let e = sym leavesBefore ∙ h day before memory before-accepted before-room (lit≤ tt) in
       let z : _≡_ {A = ℕ} 3 1 = sym before-count ∙ ap countIn e ∙ first-count in
@@ -144,13 +144,13 @@ module _ (p : Program) (meets : Meets p) where
   -- it puts the number of records P in the header
   pub not-counting-records : OnReports p (λ d b m w. countIn w ≡ recordCount b) → ⊥
   not-counting-records h =
-      let z : _≡_ {A = ℕ} 1 2 = sym two-count ∙ ap countIn (sym (meets .left share twoRecords memory)) ∙ h share twoRecords memory two-accepted two-room in
+      let z : _≡_ {A = ℕ} 1 2 = sym two-count ∙ ap countIn (sym (meets .left share twoRecords [] memory)) ∙ h share twoRecords memory two-accepted two-room in
       absurd (omega arith)
 
   -- it answers 40 before the rows above
-  pub not-short-first : ((d b : List ℕ) (room : ℕ) → room < needed d b → statusOf (p .answers d b room) ≡ 40) → ⊥
+  pub not-short-first : ((d b x : List ℕ) (room : ℕ) → room < needed d b → statusOf (p .answers d b x room) ≡ 40) → ⊥
   not-short-first h =
       let z : _≡_ {A = ℕ} 30 40 =
-      sym thirty ∙ ap statusOf (sym (meets .answered large (largeHeld 1001) 0)) ∙ h large (largeHeld 1001) 0 some-needed
+      sym thirty ∙ ap statusOf (sym (meets .answered large (largeHeld 1001) [] 0)) ∙ h large (largeHeld 1001) [] 0 some-needed
       in
       absurd (omega arith)

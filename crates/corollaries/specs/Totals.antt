@@ -13,7 +13,7 @@ use Rattle.numbers.specs.Sums.{sumTo, sumTo-ext}
 use Rattle.model.specs.Netting.{net, dvp}
 use Rattle.model.specs.Steps.Lines.{hasLine, total}
 use Rattle.model.specs.Steps.Margin.{groupSum, margin}
-use Rattle.model.specs.Calls.{Accepted, needed, memoryAfter}
+use Rattle.model.specs.Calls.{Accepted, netAfter, needed, memoryAfter}
 use Rattle.model.specs.Report.{reportWords}
 use Rattle.model.specs.Reading.{totalIn, amountIn, marginIn}
 use Rattle.model.proofs.Read.{margin-read, total-read, adds}
@@ -84,5 +84,5 @@ module _ (d : List ℕ) (n u v : ℕ → ℤ) (s : SmallReport d n u v) (rest : 
           (omega (line, add-line (total d n u v 0) (total d n u v 1), book-debit 0, book-debit 1))
       by (suc (suc (suc i))) h p q r = absurd (omega arith)
 
-pub totals-are-margins : (d b m : List ℕ) → Accepted d b → needed d b ≤ length m → Totals (memoryAfter d b m)
-totals-are-margins d b m a h = rw (memory-is d b m a h) (totals-words d (net b) (net b) (dvp b) (accepted-small d b a) (drop (needed d b) m))
+pub totals-are-margins : (d b x m : List ℕ) → Accepted d b x → needed d b ≤ length m → Totals (memoryAfter d b x m)
+totals-are-margins d b x m a h = rw (memory-is d b x m a h) (totals-words d (net b) (netAfter d b x) (dvp b) (accepted-small d b x a) (drop (needed d b) m))

@@ -13,7 +13,7 @@ use Rattle.model.specs.Computing.{everything}
 use Rattle.model.specs.Accounts.{dayFile, classRecord, seriesRecord, batchFile, positionRecord, ten, minus}
 use Rattle.model.specs.Reading.{countIn, amountsIn, marginIn, totalIn, amountIn}
 use Rattle.model.specs.Locality.{Edit, LocalChange}
-use Rattle.model.proofs.Demand.{demand3}
+use Rattle.model.proofs.Demand.{edit-none, demand3}
 
 -- one share in group 2 at 10 euro and one in group 5 at 20 euro, equity rate 1 euro
 abbrev pub day : List ℕ
@@ -51,15 +51,15 @@ memory = replicate 80 0
 
 -- ---- accepted, with room
 
-pub before-accepted : Accepted day before
+pub before-accepted : Accepted day before []
 unfolding everything
 before-accepted = refl
 
-pub changed-accepted : Accepted day changed
+pub changed-accepted : Accepted day changed []
 unfolding everything
 changed-accepted = refl
 
-pub removed-accepted : Accepted day removed
+pub removed-accepted : Accepted day removed []
 unfolding everything
 removed-accepted = refl
 
@@ -85,13 +85,13 @@ removed-edit : Edit day 2 1 before removed
 unfolding everything keep tabulate
 removed-edit = Perm·refl (longFirst ∷ shortSecond ∷ [])
 
-pub changed-locally : LocalChange (memoryAfter day before memory) (memoryAfter day changed memory) 2 1
+pub changed-locally : LocalChange (memoryAfter day before [] memory) (memoryAfter day changed [] memory) 2 1
 changed-locally =
-    demand3 .edits .local day before changed memory memory 2 1 (omega arith) (omega arith) before-accepted changed-accepted changed-edit before-room changed-room
+    demand3 .edits .local day before changed [] [] memory memory 2 1 (omega arith) (omega arith) before-accepted changed-accepted changed-edit (edit-none day 2 1) before-room changed-room
 
-pub removed-locally : LocalChange (memoryAfter day before memory) (memoryAfter day removed memory) 2 1
+pub removed-locally : LocalChange (memoryAfter day before [] memory) (memoryAfter day removed [] memory) 2 1
 removed-locally =
-    demand3 .edits .local day before removed memory memory 2 1 (omega arith) (omega arith) before-accepted removed-accepted removed-edit before-room removed-room
+    demand3 .edits .local day before removed [] [] memory memory 2 1 (omega arith) (omega arith) before-accepted removed-accepted removed-edit (edit-none day 2 1) before-room removed-room
 
 -- ---- the figures, read from the words: header's count; margins of ordinary 2, ordinary 5, fail 2, fail 5; totals
 
@@ -100,22 +100,22 @@ figuresIn w =
     pos (countIn w) ∷ marginIn w 0 2 ∷ marginIn w 0 5 ∷ marginIn w 1 2 ∷ marginIn w 1 5
     ∷ amountIn (totalIn w 0) 0 ∷ amountIn (totalIn w 1) 0 ∷ amountIn (totalIn w 2) 0 ∷ []
 
-pub before-figures : figuresIn (memoryAfter day before memory)
+pub before-figures : figuresIn (memoryAfter day before [] memory)
     ≡ pos 3 ∷ pos 0 ∷ pos 1050000 ∷ pos 330000 ∷ pos 0 ∷ pos 1050000 ∷ pos 330000 ∷ pos 1380000 ∷ []
 unfolding everything
 before-figures = refl
 
-pub changed-figures : figuresIn (memoryAfter day changed memory)
+pub changed-figures : figuresIn (memoryAfter day changed [] memory)
     ≡ pos 3 ∷ pos 0 ∷ pos 1050000 ∷ pos 440000 ∷ pos 0 ∷ pos 1050000 ∷ pos 440000 ∷ pos 1490000 ∷ []
 unfolding everything
 changed-figures = refl
 
-pub removed-figures : figuresIn (memoryAfter day removed memory)
+pub removed-figures : figuresIn (memoryAfter day removed [] memory)
     ≡ pos 2 ∷ pos 0 ∷ pos 1050000 ∷ pos 0 ∷ pos 0 ∷ pos 1050000 ∷ pos 0 ∷ pos 1050000 ∷ []
 unfolding everything
 removed-figures = refl
 
 -- the other line of group 2 stands with a residual credit of 90, which lowers no total
-pub credit-stands : amountsIn (memoryAfter day before memory) 0 2 ≡ pos 0 ∷ minus 1000000 ∷ pos 0 ∷ pos 100000 ∷ pos 0 ∷ pos 900000 ∷ []
+pub credit-stands : amountsIn (memoryAfter day before [] memory) 0 2 ≡ pos 0 ∷ minus 1000000 ∷ pos 0 ∷ pos 100000 ∷ pos 0 ∷ pos 900000 ∷ []
 unfolding everything
 credit-stands = refl

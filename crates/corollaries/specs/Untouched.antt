@@ -14,18 +14,18 @@ use Rattle.model.specs.declared.ReportFault.the-variants.{TooShort}
 use Rattle.model.specs.declared.Verdict.{Verdict}
 use Rattle.model.specs.declared.Verdict.the-variants.{Passed, Failed}
 use Rattle.model.specs.Netting.{net, dvp}
-use Rattle.model.specs.Calls.{verdict, answer, answerOf, roomAnswer, needed, report, memoryAfter}
+use Rattle.model.specs.Calls.{verdict, answer, answerOf, roomAnswer, needed, report, memoryAfter, netAfter}
 use Rattle.model.specs.Bytes.{wordsOf, bytesOf, bytesCheck, byteAnswer, bytesAfter, writtenBytes}
 use Rattle.model.proofs.Length.{report-length}
 use Rattle.model.proofs.Outcome.{leaves-all}
 
-pub refused-writes-nothing : (d b m : List ℕ) (k : Check) → answer d b (length m) ≡ Refused k → memoryAfter d b m ≡ m
+pub refused-writes-nothing : (d b x m : List ℕ) (k : Check) → answer d b x (length m) ≡ Refused k → memoryAfter d b x m ≡ m
 unfolding memoryAfter
-refused-writes-nothing d b m k e = leaves-all (answer d b (length m)) k (report d b) m e
+refused-writes-nothing d b x m k e = leaves-all (answer d b x (length m)) k (report d b x) m e
 
 pub bytes-refused-writes-nothing : (day b m : List ℕ) (k : Check) → byteAnswer day b (length m) ≡ Refused k → bytesAfter day b m ≡ m
 unfolding bytesAfter
-bytes-refused-writes-nothing day b m k e = ap (λ (a : Answer). writtenBytes a (report (wordsOf day) (wordsOf b)) m) e
+bytes-refused-writes-nothing day b m k e = ap (λ (a : Answer). writtenBytes a (report (wordsOf day) (wordsOf b) []) m) e
 
 -- n words over the front of as many or more
 over : (w m : List ℕ) (n : ℕ) → length w ≡ n → n ≤ length m → length (w ++ drop n m) ≡ length m
@@ -51,5 +51,5 @@ bytes-kept (Failed k) c n w m e = refl
 pub bytes-length-kept : (day b m : List ℕ) → length (bytesAfter day b m) ≡ length m
 unfolding bytesAfter byteAnswer answer
 bytes-length-kept day b m =
-    bytes-kept (bytesCheck day b) (verdict (wordsOf day) (wordsOf b)) (needed (wordsOf day) (wordsOf b)) (report (wordsOf day) (wordsOf b)) m
-    (report-length (wordsOf day) (net (wordsOf b)) (net (wordsOf b)) (dvp (wordsOf b)))
+    bytes-kept (bytesCheck day b) (verdict (wordsOf day) (wordsOf b) []) (needed (wordsOf day) (wordsOf b)) (report (wordsOf day) (wordsOf b) []) m
+    (report-length (wordsOf day) (net (wordsOf b)) (netAfter (wordsOf day) (wordsOf b) []) (dvp (wordsOf b)))

@@ -12,7 +12,7 @@ use Rattle.model.specs.Words.{word}
 use Rattle.model.specs.Netting.{net, dvp}
 use Rattle.model.specs.Steps.Lines.{hasLine}
 use Rattle.model.specs.Report.{wordsOfAmounts, lineWords, lineCount, totals, wordsNeeded, wordsALine, wordsFor, reportWords}
-use Rattle.model.specs.Calls.{verdict, Accepted, answer, needed, report, memoryAfter}
+use Rattle.model.specs.Calls.{verdict, Accepted, netAfter, answer, needed, report, memoryAfter}
 use Rattle.model.specs.Reading.{countIn, mapIn, standsIn, lineIn}
 use Rattle.model.proofs.Length.{nine-words}
 use Rattle.model.proofs.Read.{count-read, map-read, stands-read, line-read}
@@ -115,14 +115,14 @@ module _ (d : List ℕ) (n u v : ℕ → ℤ) where
             ∙ key-first k g;
       }
 
-answered : (d b : List ℕ) (room : ℕ) → Accepted d b → needed d b ≤ room → answer d b room ≡ Report (needed d b)
+answered : (d b x : List ℕ) (room : ℕ) → Accepted d b x → needed d b ≤ room → answer d b x room ≡ Report (needed d b)
 unfolding answer
-answered d b room a h = outcome-passed (verdict d b) (needed d b) room a h
+answered d b x room a h = outcome-passed (verdict d b x) (needed d b) room a h
 
 -- accepted, with room: the answer is a report of so many words, and the memory is laid out so
-pub record Written (d b m : List ℕ) : Type 0 where
-  pub says : answer d b (length m) ≡ Report (needed d b)
-  pub memory : Layout (needed d b) (memoryAfter d b m) m
+pub record Written (d b x m : List ℕ) : Type 0 where
+  pub says : answer d b x (length m) ≡ Report (needed d b)
+  pub memory : Layout (needed d b) (memoryAfter d b x m) m
 
-pub accepted-writes : (d b m : List ℕ) → Accepted d b → needed d b ≤ length m → Written d b m
-accepted-writes d b m a h = record { says = answered d b (length m) a h; memory = rw (memory-is d b m a h) (laid d (net b) (net b) (dvp b) m) }
+pub accepted-writes : (d b x m : List ℕ) → Accepted d b x → needed d b ≤ length m → Written d b x m
+accepted-writes d b x m a h = record { says = answered d b x (length m) a h; memory = rw (memory-is d b x m a h) (laid d (net b) (netAfter d b x) (dvp b) m) }

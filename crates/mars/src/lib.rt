@@ -1,9 +1,11 @@
-// The C entries: the report of two files given as bytes; the reports of all accounts of a broker; a printed text read back.
+// The C entries: the report of two files given as bytes; of files and deposits given as words; the reports of all accounts of a broker; a
+// printed text read back.
 ghost use mathlib.Core.Path.{_≡_};
 ghost use Prim.Native.Nat.{_+_, _*_, _^_};
 ghost use lib.ListN.{length};
 ghost use Rattle.model.specs.Answers.{packed};
 ghost use Rattle.model.specs.Bytes.{byteAnswer, bytesAfter};
+ghost use Rattle.model.specs.Calls.{answer, memoryAfter};
 ghost use Rattle.model.specs.ManyAccounts.{reportsAnswer, resultsAfter, reportsAfter};
 ghost use Rattle.model.specs.TextReading.{textSays, textNumber, textValue, totalAfter};
 use answers::NUMBER_UNIT;
@@ -18,6 +20,20 @@ pub extern "C" fn mars_report(day: &[u8], batch: &[u8], report: &mut [u8]) -> u6
     ensures report { λ _. ⌜ now (report .exit) ≡ bytesAfter (now (day .entry)) (now (batch .entry)) (now (report .entry)) ⌝ }
 {
     answers::packed(byte_report(day, batch, report))
+}
+
+// The same of files of words, with deposits.
+#[no_mangle]
+pub extern "C" fn mars_report_words(
+    day: &[u32],
+    batch: &[u32],
+    deposits: &[u32],
+    report: &mut [u32],
+) -> u64
+    ensures result { λ r. ⌜ r ≡ packed (answer (now (day .entry)) (now (batch .entry)) (now (deposits .entry)) (length (now (report .entry)))) ⌝ }
+    ensures report { λ _. ⌜ now (report .exit) ≡ memoryAfter (now (day .entry)) (now (batch .entry)) (now (deposits .entry)) (now (report .entry)) ⌝ }
+{
+    answers::packed(report::report(day, batch, deposits, report))
 }
 
 // The same of all accounts of a broker: 0 and the words written in all, or the number and place of row 60 or 61.

@@ -14,6 +14,8 @@ use Rattle.model.specs.DayChecks.{row10, row11, row12, row13, row14, row
 use Rattle.model.specs.Batch.{recordCount, batchWords}
 use Rattle.model.specs.BatchChecks.{row20, row21, row22, row27, row28, row23, row24, row25, row26, wordCheck, batchForm, positionCheck, batchCheck}
 use Rattle.model.specs.Netting.{row30, nettingCheck}
+use Rattle.model.specs.Deposits.{depositCount}
+use Rattle.model.specs.DepositChecks.{oddWords, row50, row51, depositCheck}
 use Rattle.model.specs.Calls.{verdict, Accepted}
 use Rattle.model.proofs.Verdicts.{_then_, failed-not, tried-passed, tried-pass}
 
@@ -28,7 +30,7 @@ found : (k : ℕ → Check) (f : Found) → foundRow k f ≡ Passed → f ≡ No
 found k (At i) e = failed-not (k i) e
 found k Nothing e = refl
 
-clear : (k : ℕ → Check) (t : ℕ → Bool) (n : ℕ) → recordRow k t n ≡ Passed → (i : ℕ) → i < n → t i ≡ false
+pub clear : (k : ℕ → Check) (t : ℕ → Bool) (n : ℕ) → recordRow k t n ≡ Passed → (i : ℕ) → i < n → t i ≡ false
 clear k t n e = first-clear t n (found k (firstBad t n) e)
 
 clear-back : (k : ℕ → Check) (t : ℕ → Bool) (n : ℕ) → ((i : ℕ) → i < n → t i ≡ false) → recordRow k t n ≡ Passed
@@ -60,6 +62,12 @@ pub record BatchRows (d b : List ℕ) : Type 0 where
   pub checks : BatchChecks d b
   pub at30 : (r : ℕ) → r < recordCount b → row30 d b r ≡ false
 
+-- the rows of the deposits
+pub record DepositRows (d x : List ℕ) : Type 0 where
+  pub even : oddWords x ≡ false
+  pub at50 : (i : ℕ) → i < depositCount x → row50 d x i ≡ false
+  pub at51 : (i : ℕ) → i < depositCount x → row51 d x i ≡ false
+
 pub day-checked : (d : List ℕ) → dayCheck d ≡ Passed → DayRows d
 unfolding dayCheck recordCheck classCheck seriesCheck
 day-checked d e =
@@ -77,6 +85,17 @@ day-checked d e =
       at16 = clear _ _ _ (series .1 .0);
       at17 = clear _ _ _ (series .1 .1 .0);
     }
+
+module _ (d x : List ℕ) where
+  pub deposit-checked : depositCheck d x ≡ Passed → DepositRows d x
+  unfolding depositCheck
+  deposit-checked e =
+      let rows = tried-passed _ e in
+      record { even = plain-clear _ _ (rows .0); at50 = clear _ _ _ (rows .1 .0); at51 = clear _ _ _ (rows .1 .1 .0) }
+
+  pub deposits-pass : DepositRows d x → depositCheck d x ≡ Passed
+  unfolding depositCheck
+  deposits-pass r = tried-pass _ (plain-back _ _ (r .even) then clear-back _ _ _ (r .at50) then clear-back _ _ _ (r .at51) then tt)
 
 module _ (d b : List ℕ) where
   pub batch-checked : batchCheck d b ≡ Passed → BatchChecks d b
@@ -98,26 +117,35 @@ module _ (d b : List ℕ) where
         at26 = clear _ _ _ (positions .1 .1 .1 .0);
       }
 
-  pub day-passed : Accepted d b → dayCheck d ≡ Passed
+  pub netting-rows : nettingCheck d b ≡ Passed → (r : ℕ) → r < recordCount b → row30 d b r ≡ false
+  unfolding nettingCheck
+  netting-rows e = clear _ _ _ e
+
+module _ (d b x : List ℕ) where
+  pub day-passed : Accepted d b x → dayCheck d ≡ Passed
   unfolding verdict
   day-passed e = tried-passed _ e .0
 
-  pub day-rows : Accepted d b → DayRows d
+  pub day-rows : Accepted d b x → DayRows d
   day-rows e = day-checked d (day-passed e)
 
-  pub batch-rows : Accepted d b → BatchRows d b
-  unfolding verdict nettingCheck
+  pub batch-rows : Accepted d b x → BatchRows d b
+  unfolding verdict
   batch-rows e =
       let stages = tried-passed _ e in
-      record { checks = batch-checked (stages .1 .0); at30 = clear _ _ _ (stages .1 .1 .0) }
+      record { checks = batch-checked d b (stages .1 .0); at30 = netting-rows d b (stages .1 .1 .0) }
 
-  pub all-passed : dayCheck d ≡ Passed → batchCheck d b ≡ Passed → nettingCheck d b ≡ Passed → Accepted d b
+  pub deposit-rows : Accepted d b x → DepositRows d x
   unfolding verdict
-  all-passed p q r = tried-pass _ (p then q then r then tt)
+  deposit-rows e = deposit-checked d x (tried-passed _ e .1 .1 .1 .0)
 
-  pub rows-accepted : dayCheck d ≡ Passed → BatchRows d b → Accepted d b
+  pub all-passed : dayCheck d ≡ Passed → batchCheck d b ≡ Passed → nettingCheck d b ≡ Passed → depositCheck d x ≡ Passed → Accepted d b x
+  unfolding verdict
+  all-passed p q r z = tried-pass _ (p then q then r then z then tt)
+
+  pub rows-accepted : dayCheck d ≡ Passed → BatchRows d b → DepositRows d x → Accepted d b x
   unfolding batchCheck batchForm wordCheck positionCheck nettingCheck
-  rows-accepted p r =
+  rows-accepted p r z =
       all-passed p
       (tried-pass _
       (tried-pass _
@@ -128,3 +156,4 @@ module _ (d b : List ℕ) where
       then tried-pass _ (clear-back _ _ _ (r .checks .at23) then clear-back _ _ _ (r .checks .at24) then clear-back _ _ _ (r .checks .at25) then clear-back _ _ _ (r .checks .at26) then tt)
       then tt))
       (clear-back _ _ _ (r .at30))
+      (deposits-pass d x z)

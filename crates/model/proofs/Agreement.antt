@@ -1,4 +1,4 @@
--- The definitions against worked figures, in one place: M1 to M9, the accounts on which seen mistakes show, what none of these shows, a refusal of each row, the call for many accounts, and the short option adjustment.
+-- The definitions against worked figures, in one place: M1 to M9, the accounts on which seen mistakes show, what none of these shows, a refusal of each row, the call for many accounts, the short option adjustment, and deposits.
 use mathlib.Core.Path.{_≡_}
 use Rattle.model.specs.Accounts.{allComputed, allPublished}
 use Rattle.model.specs.Figures.{figures, figures-agree}
@@ -7,6 +7,7 @@ use Rattle.model.specs.Cases.{cases, cases-agree}
 use Rattle.model.specs.Refusals.{refusals, refusals-agree}
 use Rattle.model.specs.ManyFigures.{brokers, brokers-agree}
 use Rattle.model.specs.AdjustmentFigures.{adjustments, adjustments-agree}
+use Rattle.model.specs.DepositFigures.{lodged, lodged-agree}
 
 pub record Agreement : Type 0 where
   pub scope : allComputed figures ≡ allPublished figures
@@ -15,6 +16,7 @@ pub record Agreement : Type 0 where
   pub refused : allComputed refusals ≡ allPublished refusals
   pub many : allComputed brokers ≡ allPublished brokers
   pub adjusted : allComputed adjustments ≡ allPublished adjustments
+  pub deposited : allComputed lodged ≡ allPublished lodged
 
 pub agreement : Agreement
 agreement =
@@ -25,4 +27,5 @@ agreement =
       refused = refusals-agree;
       many = brokers-agree;
       adjusted = adjustments-agree;
+      deposited = lodged-agree;
     }

@@ -15,6 +15,10 @@ pub mod Bounds
 pub mod Fit
 pub mod ByteWords
 pub mod Digits
+pub mod Cover
+pub mod CoverLocal
+pub mod DepositOrders
+pub mod DepositLaws
 pub mod Edits
 pub mod Demand
 pub mod SmallReport

@@ -1,7 +1,7 @@
 -- U1 as the code's proofs meet it: rows 60 and 61 passed, where batches and reports stand and that they fit, and one account more.
 use mathlib.Core.Path.{_≡_, refl, _∙_}
 use mathlib.Core.Bool.{not}
-use mathlib.Core.List.{List, _++_}
+use mathlib.Core.List.{List, [], _++_}
 use Prim.Native.Nat.{ℕ, zero, suc, _+_, _-_, _*_, _≤_}
 use native.Mathlib.Decide.{le-ind}
 use native.Mathlib.Numerals.{add-one}
@@ -59,9 +59,9 @@ before-more ns i = rw add-one
 -- ---- one call
 
 -- it writes no more words than there are, and at most the longest report
-pub words-fit : (d b : List ℕ) (room : ℕ) → (wordsIn (answer d b room) ≤ room) × (wordsIn (answer d b room) ≤ longestReport)
-words-fit d b room =
-    answer-by d b room (λ a. (wordsIn a ≤ room) × (wordsIn a ≤ longestReport)) (λ h. (h, needed-most d b)) (λ c. (omega arith, omega arith))
+pub words-fit : (d b x : List ℕ) (room : ℕ) → (wordsIn (answer d b x room) ≤ room) × (wordsIn (answer d b x room) ≤ longestReport)
+words-fit d b x room =
+    answer-by d b x room (λ a. (wordsIn a ≤ room) × (wordsIn a ≤ longestReport)) (λ h. (h, needed-most d b)) (λ c. (omega arith, omega arith))
 
 -- ---- the calls in turn
 
@@ -69,12 +69,12 @@ module _ (d : List ℕ) (b : ℕ → List ℕ) (room : ℕ) where
   pub start-fits : (i : ℕ) → reportStart d b room i ≤ room
   unfolding reportStart
   start-fits zero = omega arith
-  start-fits (suc i) = omega (arith, start-fits i, words-fit d (b i) (room - reportStart d b room i) .0)
+  start-fits (suc i) = omega (arith, start-fits i, words-fit d (b i) [] (room - reportStart d b room i) .0)
 
   pub start-most : (i : ℕ) → reportStart d b room i ≤ longestReport * i
   unfolding reportStart
   start-most zero = omega arith
-  start-most (suc i) = omega (arith, start-most i, words-fit d (b i) (room - reportStart d b room i) .1)
+  start-most (suc i) = omega (arith, start-most i, words-fit d (b i) [] (room - reportStart d b room i) .1)
 
   pub results-long : (rs : List ℕ) (i : ℕ) → resultNumbers * i ≤ length rs → length (resultsTo d b room rs i) ≡ length rs
   unfolding resultsTo
@@ -111,9 +111,9 @@ module _ (d : List ℕ) (b : ℕ → List ℕ) (m : List ℕ) where
         arith,
         memory-long i,
         start-fits d b (length m) i,
-        length-append (take s l) (memoryAfter d (b i) (drop s l)),
+        length-append (take s l) (memoryAfter d (b i) [] (drop s l)),
         length-take-le s l (omega (arith, memory-long i, start-fits d b (length m) i)),
-        length-kept d (b i) (drop s l),
+        length-kept d (b i) [] (drop s l),
         length-drop s l,
       )
 
@@ -121,7 +121,7 @@ module _ (d : List ℕ) (b : ℕ → List ℕ) (m : List ℕ) where
   unfolding memoryTo
   memory-none = refl
 
-  pub memory-more : (i : ℕ) → memoryTo d b m (i + 1) ≡ take (reportStart d b (length m) i) (memoryTo d b m i) ++ memoryAfter d (b i) (drop (reportStart d b (length m) i) (memoryTo d b m i))
+  pub memory-more : (i : ℕ) → memoryTo d b m (i + 1) ≡ take (reportStart d b (length m) i) (memoryTo d b m i) ++ memoryAfter d (b i) [] (drop (reportStart d b (length m) i) (memoryTo d b m i))
   unfolding memoryTo
   memory-more i = rw add-one
 

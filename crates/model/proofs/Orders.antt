@@ -1,4 +1,4 @@
--- The order of the records changes nothing.
+-- The order of the records and of the deposits changes nothing.
 use mathlib.Core.Path.{_≡_, refl, sym, ap, _∙_}
 use mathlib.Core.Bool.{Bool, false, not, _&&_, _||_}
 use mathlib.Core.List.{List, _∷_, Perm}
@@ -7,31 +7,27 @@ use native.Mathlib.Omega.{arith}
 use lib.Dec.{eqb, ltb}
 use lib.IntN.{ℤ, natAbs}
 use lib.ListN.{length, getD}
-use Rattle.numbers.specs.Scan.{firstBad, hit, first-none, first-clear}
 use Rattle.model.specs.Limits.{positionLimit, mostRecords}
-use Rattle.numbers.specs.Lists.{any-perm, hit-any, nothing-hit}
+use Rattle.numbers.specs.Lists.{clear-perm}
 use Rattle.model.specs.Words.{kind, payload, bits}
 use Rattle.model.specs.DayFile.{multiplier}
 use Rattle.model.specs.Batch.{recordCount, recordWords, batchWords, recordWord}
 use Rattle.model.specs.BatchChecks.{row20, row21, recordKind, recordLimit, dvpOutOfRange, dvpMinusZero, wrongKind, outOfRange, minusZero, atWord, row22, row27, row28, row23, row24, row25, row26}
 use Rattle.model.specs.Netting.{net, dvp, row30}
+use Rattle.model.specs.Steps.{covered}
 use Rattle.model.specs.Report.{reportWords, wordsNeeded}
-use Rattle.model.specs.Calls.{Accepted, answer, answerOf, roomAnswer, memoryAfter, written}
-use Rattle.model.specs.Locality.{recordAt, records, Reordered, Orders}
-use Rattle.model.proofs.Accepted.{BatchRows, day-passed, batch-rows, rows-accepted}
+use Rattle.model.specs.Calls.{Accepted, netAfter, answer, answerOf, roomAnswer, memoryAfter, written}
+use Rattle.model.specs.Locality.{recordAt, records, Reordered, DepositsReordered, Orders}
+use Rattle.model.proofs.Accepted.{BatchRows, day-passed, batch-rows, deposit-rows, rows-accepted}
 use Rattle.model.proofs.BatchWords.{words-clear, words-back}
+use Rattle.model.proofs.CoverLocal.{cover-order}
+use Rattle.model.proofs.DepositOrders.{deposits-still}
 use Rattle.model.proofs.Nets.{keyOf, net-order, dvp-order}
 
 -- a test of a record's words that fails at every record of the one fails at every record of the other
 module _ (b₁ b₂ : List ℕ) (p : Perm (records b₁) (records b₂)) (t : List ℕ → Bool) where
   carried : ((r : ℕ) → r < recordCount b₁ → t (recordAt b₁ r) ≡ false) → (r : ℕ) → r < recordCount b₂ → t (recordAt b₂ r) ≡ false
-  carried h =
-      first-clear (λ r. t (recordAt b₂ r)) (recordCount b₂)
-      (nothing-hit (firstBad (λ r. t (recordAt b₂ r)) (recordCount b₂))
-      (hit-any t (recordCount b₂) (recordAt b₂)
-      ∙ sym (any-perm t (records b₁) (records b₂) p)
-      ∙ sym (hit-any t (recordCount b₁) (recordAt b₁))
-      ∙ ap hit (first-none (λ r. t (recordAt b₁ r)) (recordCount b₁) h)))
+  carried = clear-perm t (recordCount b₁) (recordCount b₂) (recordAt b₁) (recordAt b₂) p
 
 -- a record by itself has its words
 own-word : (b : List ℕ) (r j : ℕ) → j < recordWords → recordWord (0 ∷ recordAt b r) 0 j ≡ recordWord b r j
@@ -82,21 +78,26 @@ module _ (d b₁ b₂ : List ℕ) (o : Reordered b₁ b₂) where
             ∙ carried b₁ b₂ (o .same) (λ w. ltb positionLimit (natAbs (net b₁ (keyOf w)) * multiplier d (bits (payload (getD w 0 0)) 0 8))) (r .at30) q h;
       }
 
-  accepted-still : Accepted d b₁ → Accepted d b₂
-  accepted-still a = rows-accepted d b₂ (day-passed d b₁ a) (rows (batch-rows d b₁ a))
+  module _ (x₁ x₂ : List ℕ) (q : DepositsReordered x₁ x₂) where
+    after-same : netAfter d b₁ x₁ ≡ netAfter d b₂ x₂
+    after-same = cover-order d x₁ x₂ (q .same) (net b₁) ∙ ap (covered d x₂) net-same
 
-  answer-same : (room : ℕ) → Accepted d b₁ → answer d b₁ room ≡ answer d b₂ room
-  unfolding answer
-  answer-same room a = λ i. answerOf ((a ∙ sym (accepted-still a)) i) (roomAnswer (wordsNeeded d (net-same i) (dvp-same i)) room)
+    accepted-still : Accepted d b₁ x₁ → Accepted d b₂ x₂
+    accepted-still a =
+        rows-accepted d b₂ x₂ (day-passed d b₁ x₁ a) (rows (batch-rows d b₁ x₁ a)) (deposits-still d x₁ x₂ q (deposit-rows d b₁ x₁ a))
 
-  memory-same : (m : List ℕ) → Accepted d b₁ → memoryAfter d b₁ m ≡ memoryAfter d b₂ m
-  unfolding memoryAfter
-  memory-same m a = λ i. written (answer-same (length m) a i) (reportWords d (net-same i) (net-same i) (dvp-same i)) m
+    answer-same : (room : ℕ) → Accepted d b₁ x₁ → answer d b₁ x₁ room ≡ answer d b₂ x₂ room
+    unfolding answer
+    answer-same room a = λ i. answerOf ((a ∙ sym (accepted-still a)) i) (roomAnswer (wordsNeeded d (net-same i) (dvp-same i)) room)
+
+    memory-same : (m : List ℕ) → Accepted d b₁ x₁ → memoryAfter d b₁ x₁ m ≡ memoryAfter d b₂ x₂ m
+    unfolding memoryAfter
+    memory-same m a = λ i. written (answer-same (length m) a i) (reportWords d (net-same i) (after-same i) (dvp-same i)) m
 
 pub orders : Orders
 orders =
     record {
-      accepted = λ d b₁ b₂ a o. accepted-still d b₁ b₂ o a;
-      answers = λ d b₁ b₂ room a o. answer-same d b₁ b₂ o room a;
-      memories = λ d b₁ b₂ m a o. memory-same d b₁ b₂ o m a;
+      accepted = λ d b₁ b₂ x₁ x₂ a o q. accepted-still d b₁ b₂ o x₁ x₂ q a;
+      answers = λ d b₁ b₂ x₁ x₂ room a o q. answer-same d b₁ b₂ o x₁ x₂ q room a;
+      memories = λ d b₁ b₂ x₁ x₂ m a o q. memory-same d b₁ b₂ o x₁ x₂ q m a;
     }

@@ -14,7 +14,7 @@ use Rattle.model.specs.declared.ReportFault.the-variants.{TooShort}
 use Rattle.model.specs.declared.Verdict.{Verdict}
 use Rattle.model.specs.declared.Verdict.the-variants.{Passed, Failed}
 use Rattle.model.specs.Netting.{net, dvp}
-use Rattle.model.specs.Calls.{verdict, Accepted, report, needed, outcome, answer, written, memoryAfter}
+use Rattle.model.specs.Calls.{verdict, Accepted, netAfter, report, needed, outcome, answer, written, memoryAfter}
 use Rattle.model.specs.Report.{wordsNeeded, longestReport}
 use Rattle.model.proofs.Read.{count-small}
 use Rattle.model.proofs.Length.{report-length}
@@ -61,26 +61,26 @@ pub needed-most : (d b : List ℕ) → needed d b ≤ longestReport
 unfolding wordsNeeded
 needed-most d b = omega (arith, count-small d (net b) (dvp b))
 
-pub answer-by : (d b : List ℕ) (room : ℕ) (P : Answer → Type 0) → (needed d b ≤ room → P (Report (needed d b))) → ((c : Check) → P (Refused c)) → P (answer d b room)
+pub answer-by : (d b x : List ℕ) (room : ℕ) (P : Answer → Type 0) → (needed d b ≤ room → P (Report (needed d b))) → ((c : Check) → P (Refused c)) → P (answer d b x room)
 unfolding answer
-answer-by d b room P f g = outcome-by (verdict d b) (needed d b) room P (λ e h. f h) g
+answer-by d b x room P f g = outcome-by (verdict d b x) (needed d b) room P (λ e h. f h) g
 
 -- an answer that is a report: the account is accepted, and the memory has room for so many words
-pub answer-report : (d b : List ℕ) (room k : ℕ) → answer d b room ≡ Report k → Accepted d b × (k ≡ needed d b) × (needed d b ≤ room)
+pub answer-report : (d b x : List ℕ) (room k : ℕ) → answer d b x room ≡ Report k → Accepted d b x × (k ≡ needed d b) × (needed d b ≤ room)
 unfolding answer
-answer-report d b room k e = outcome-report (verdict d b) (needed d b) room k e
+answer-report d b x room k e = outcome-report (verdict d b x) (needed d b) room k e
 
 -- the memory after a call that is accepted, with room
-pub memory-is : (d b m : List ℕ) → Accepted d b → needed d b ≤ length m → memoryAfter d b m ≡ report d b ++ drop (needed d b) m
+pub memory-is : (d b x m : List ℕ) → Accepted d b x → needed d b ≤ length m → memoryAfter d b x m ≡ report d b x ++ drop (needed d b) m
 unfolding memoryAfter answer
-memory-is d b m a h = leaves-words (verdict d b) (needed d b) (report d b) m a h
+memory-is d b x m a h = leaves-words (verdict d b x) (needed d b) (report d b x) m a h
 
 -- .. after an answer
-pub memory-of : (d b m : List ℕ) (r : Answer) → r ≡ answer d b (length m) → written r (report d b) m ≡ memoryAfter d b m
+pub memory-of : (d b x m : List ℕ) (r : Answer) → r ≡ answer d b x (length m) → written r (report d b x) m ≡ memoryAfter d b x m
 unfolding memoryAfter
-memory-of d b m r e = ap (λ (a : Answer). written a (report d b) m) e
+memory-of d b x m r e = ap (λ (a : Answer). written a (report d b x) m) e
 
 -- no call changes the memory's length
-pub length-kept : (d b m : List ℕ) → length (memoryAfter d b m) ≡ length m
+pub length-kept : (d b x m : List ℕ) → length (memoryAfter d b x m) ≡ length m
 unfolding memoryAfter answer
-length-kept d b m = leaves-length (verdict d b) (needed d b) (report d b) m (report-length d (net b) (net b) (dvp b))
+length-kept d b x m = leaves-length (verdict d b x) (needed d b) (report d b x) m (report-length d (net b) (netAfter d b x) (dvp b))

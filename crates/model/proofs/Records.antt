@@ -82,12 +82,22 @@ budget-less d n u v h w =
     }
 
 -- so are the tables of its positions
-pub table-budget : (d : List ℕ) (n v : ℕ → ℤ) → DayRows d → Budget d n v → Budget d (tabled n) (tabled v)
-table-budget d n v days w =
+pub table-nets : (d : List ℕ) (n v : ℕ → ℤ) → DayRows d → Budget d n v → Budget d (tabled n) v
+table-nets d n v days w =
     let f = few-series d days in
     record {
       records = w .records;
       few = w .few;
       netLimit = λ k x s hs hx hk. rw (getD-tabulate positionCount n (position k x s) (pos 0) (omega arith)) (w .netLimit k x s hs hx hk);
-      dvpLimit = λ p h. rw (getD-tabulate positionCount v p (pos 0) h) (w .dvpLimit p h);
+      dvpLimit = w .dvpLimit;
+    }
+
+pub table-budget : (d : List ℕ) (n v : ℕ → ℤ) → DayRows d → Budget d n v → Budget d (tabled n) (tabled v)
+table-budget d n v days w =
+    let t = table-nets d n v days w in
+    record {
+      records = t .records;
+      few = t .few;
+      netLimit = t .netLimit;
+      dvpLimit = λ p h. rw (getD-tabulate positionCount v p (pos 0) h) (t .dvpLimit p h);
     }

@@ -6,10 +6,11 @@ use lib.IntN.{ℤ, natAbs}
 use Rattle.model.specs.Limits.{groupCount}
 use Rattle.model.specs.Netting.{net, dvp}
 use Rattle.model.specs.Steps.{margin}
-use Rattle.model.specs.Calls.{Accepted}
+use Rattle.model.specs.Calls.{Accepted, netAfter}
 use Rattle.model.proofs.Accepted.{DayRows, day-rows, batch-rows}
 use Rattle.model.proofs.Read.{totalOf}
 use Rattle.model.proofs.Records.{Budget, batch-budget}
+use Rattle.model.proofs.Cover.{cover-budget}
 use Rattle.model.proofs.Bounds.{margin-small, total-small, account-small}
 
 pub record SmallReport (d : List ℕ) (n u v : ℕ → ℤ) : Type 0 where
@@ -25,9 +26,9 @@ module _ (d : List ℕ) (n u v : ℕ → ℤ) (p : DayRows d) (q : Budget d u v)
   pub small-report : SmallReport d n u v
   small-report = record { margins = margin-small d u v p q; totals = totals-small }
 
-module _ (d b : List ℕ) (a : Accepted d b) where
-  pub accepted-budget : Budget d (net b) (dvp b)
-  accepted-budget = batch-budget d b (day-rows d b a) (batch-rows d b a)
+module _ (d b x : List ℕ) (a : Accepted d b x) where
+  pub accepted-budget : Budget d (netAfter d b x) (dvp b)
+  accepted-budget = cover-budget d x (net b) (dvp b) (batch-budget d b (day-rows d b x a) (batch-rows d b x a))
 
-  pub accepted-small : SmallReport d (net b) (net b) (dvp b)
-  accepted-small = small-report d (net b) (net b) (dvp b) (day-rows d b a) accepted-budget
+  pub accepted-small : SmallReport d (net b) (netAfter d b x) (dvp b)
+  accepted-small = small-report d (net b) (netAfter d b x) (dvp b) (day-rows d b x a) accepted-budget

@@ -6,12 +6,12 @@ use Prim.Native.Nat.{ℕ, suc, _-_, _/_, _%_, _^_, _≤_, _<_}
 use native.Mathlib.Decide.{le-ind, decLt, decLe}
 use native.Mathlib.Nat.{le-of-eq}
 use native.Mathlib.Omega.{arith}
-use borrow.Author.Tests.{eqb-true, leb-false, le-leb, lt-leb, lt-ltb, not-false}
+use borrow.Author.Tests.{eqb-true, eq-eqb, ne-eqb, leb-false, le-leb, lt-leb, lt-ltb, not-false}
 use lib.Dec.{leb, ltb, eqb}
 use Rattle.numbers.specs.declared.Found.{Found}
 use Rattle.numbers.specs.declared.Found.the-variants.{At, Nothing}
-use Rattle.numbers.specs.Scan.{hit, first-at}
-use Rattle.model.specs.DayFile.{classCount, classNumber, seriesCount, seriesKey, seriesClassNumber, foundClass, placeOr, seriesClass}
+use Rattle.numbers.specs.Scan.{hit, first-at, first-hit, first-none}
+use Rattle.model.specs.DayFile.{classCount, classNumber, seriesCount, seriesKey, seriesClassNumber, foundClass, placeOr, classPlace, seriesClass}
 use Rattle.model.specs.DayChecks.{row13, row15}
 use Rattle.model.proofs.Accepted.{DayRows}
 use Rattle.model.proofs.Expiry.{rank-order}
@@ -77,3 +77,13 @@ module _ (d : List ℕ) (r : DayRows d) where
             found t l .1,
           ))
       by (no w) (no p) = let e : s ≡ t = omega arith in le-of-eq (ap (seriesClass d) e)
+
+  -- a class is found by its own number
+  pub class-place : (c : ℕ) → c < classCount d → classPlace d (classNumber d c) ≡ c
+  unfolding classPlace
+  class-place c h =
+      ap (λ (f : Found). placeOr f (classCount d))
+      (first-hit (λ e. eqb (classNumber d e) (classNumber d c)) c (classCount d)
+      (first-none (λ e. eqb (classNumber d e) (classNumber d c)) c
+      (λ e l. ne-eqb (classNumber d e) (classNumber d c) (λ q. omega (arith, number-order e c l h))))
+      (eq-eqb (classNumber d c) (classNumber d c) refl) h)

@@ -88,8 +88,8 @@ module _ (d b : List ℕ) where
 
   -- the call's two numbers, with memory for the longest report
   abbrev pub answerNumbers : List ℤ
-  answerNumbers = numbersOf (answer d b longestReport)
+  answerNumbers = numbersOf (answer d b [] longestReport)
 
   -- the first of them alone, by the rows that need no memory: 0 where the account is accepted
   abbrev pub status : ℤ
-  status = pos (statusOf (answerOf (verdict d b) (Answer.Report 0)))
+  status = pos (statusOf (answerOf (verdict d b []) (Answer.Report 0)))

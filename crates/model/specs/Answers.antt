@@ -9,6 +9,7 @@ use Rattle.model.specs.declared.ClassFault.the-variants.{ClassOrder, Off
 use Rattle.model.specs.declared.SeriesFault.the-variants.{ClassAbsent, SeriesOrder, BadType}
 use Rattle.model.specs.declared.BatchWordsFault.the-variants.{WrongKind, OutOfRange, MinusZero}
 use Rattle.model.specs.declared.PositionFault.the-variants.{SeriesAbsent, ExercisedNonOption, FailNonSecurity, DvpNonSecurity}
+use Rattle.model.specs.declared.NettingFault.the-variants.{NetTooLarge, BadDeposit, UnlikeMultipliers}
 use Rattle.model.specs.declared.AccountsFault.the-variants.{BadLengths, ShortResults}
 
 abbrev pub numberOf : Check → ℕ
@@ -31,7 +32,9 @@ numberOf (Positions SeriesAbsent p) = 23
 numberOf (Positions ExercisedNonOption p) = 24
 numberOf (Positions FailNonSecurity p) = 25
 numberOf (Positions DvpNonSecurity p) = 26
-numberOf (Netting f p) = 30
+numberOf (Netting NetTooLarge p) = 30
+numberOf (Netting BadDeposit p) = 50
+numberOf (Netting UnlikeMultipliers p) = 51
 numberOf (Check.Report f p) = 40
 numberOf (Accounts BadLengths p) = 60
 numberOf (Accounts ShortResults p) = 61

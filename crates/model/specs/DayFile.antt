@@ -148,14 +148,22 @@ isSecurity t = isEquity t || isWarrant t || isRights t
 abbrev pub isDerivative : ℕ → Bool
 isDerivative t = isFuture t || isOption t
 
--- ---- the class of a series: the one with the series' class number (the number of classes where there is none)
+-- ---- a class by its number
 
-unfoldable pub foundClass : List ℕ → ℕ → Found
-foundClass d s = firstWhere (λ c. eqb (classNumber d c) (seriesClassNumber d s)) (classCount d)
+-- the class with number n, and its place (the number of classes where there is none)
+abbrev pub classWith : List ℕ → ℕ → Found
+classWith d n = firstWhere (λ c. eqb (classNumber d c) n) (classCount d)
 
 abbrev pub placeOr : Found → ℕ → ℕ
 placeOr (At c) n = c
 placeOr Nothing n = n
+
+unfoldable pub classPlace : List ℕ → ℕ → ℕ
+classPlace d n = placeOr (classWith d n) (classCount d)
+
+-- the class of a series: the one with the series' class number
+unfoldable pub foundClass : List ℕ → ℕ → Found
+foundClass d s = classWith d (seriesClassNumber d s)
 
 unfoldable pub seriesClass : List ℕ → ℕ → ℕ
 seriesClass d s = placeOr (foundClass d s) (classCount d)

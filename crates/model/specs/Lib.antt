@@ -7,7 +7,9 @@ pub mod DayChecks
 pub mod Batch
 pub mod BatchChecks
 pub mod Netting
+pub mod Deposits
 pub mod Steps
+pub mod DepositChecks
 pub mod Report
 pub mod Calls
 pub mod Bytes
@@ -25,5 +27,6 @@ pub mod Cases
 pub mod Refusals
 pub mod ManyFigures
 pub mod AdjustmentFigures
+pub mod DepositFigures
 pub mod Ascii
 pub mod Texts

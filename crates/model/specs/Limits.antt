@@ -13,6 +13,10 @@ quantityLimit = 10000000
 abbrev pub dvpAmountLimit : ℕ
 dvpAmountLimit = 5000000000000000
 
+-- the shares of a deposit
+abbrev pub sharesLimit : ℕ
+sharesLimit = 10000000
+
 -- row 30: the absolute net × multiplier of a position
 abbrev pub positionLimit : ℕ
 positionLimit = 10000000

@@ -45,7 +45,7 @@ row61 ns entries = ltb entries (resultNumbers * length ns)
 unfoldable pub accountsCheck : List ℕ → List ℕ → ℕ → Verdict
 accountsCheck bs ns entries = tried (plainRow (Accounts BadLengths) (row60 bs ns) ∷ plainRow (Accounts ShortResults) (row61 ns entries) ∷ [])
 
--- ---- "single calls, made in turn, each with the report memory still left"
+-- ---- "single calls, made in turn, each with the report memory still left", without deposits
 
 -- the words that an answer wrote: "a refused account .. writes no report words"
 abbrev pub wordsIn : Answer → ℕ
@@ -61,11 +61,11 @@ module _ (d : List ℕ) (b : ℕ → List ℕ) (room : ℕ) where
   -- where the report of account i starts: behind the words written before
   unfoldable pub reportStart : ℕ → ℕ
   reportStart zero = 0
-  reportStart (suc i) = reportStart i + wordsIn (answer d (b i) (room - reportStart i))
+  reportStart (suc i) = reportStart i + wordsIn (answer d (b i) [] (room - reportStart i))
 
   -- the single call of account i
   abbrev pub answerFor : ℕ → Answer
-  answerFor i = answer d (b i) (room - reportStart i)
+  answerFor i = answer d (b i) [] (room - reportStart i)
 
   -- the result list after i calls
   unfoldable pub resultsTo : List ℕ → ℕ → List ℕ
@@ -77,7 +77,7 @@ module _ (d : List ℕ) (b : ℕ → List ℕ) (m : List ℕ) where
   unfoldable pub memoryTo : ℕ → List ℕ
   memoryTo zero = m
   memoryTo (suc i) =
-      take (reportStart d b (length m) i) (memoryTo i) ++ memoryAfter d (b i) (drop (reportStart d b (length m) i) (memoryTo i))
+      take (reportStart d b (length m) i) (memoryTo i) ++ memoryAfter d (b i) [] (drop (reportStart d b (length m) i) (memoryTo i))
 
 -- ---- the call
 

@@ -44,7 +44,7 @@ mistakes =
       published = pos 0 ∷ pos 20000 ∷ [];
     }
     ∷ record {
-      computed = status share twoRecords ∷ pos (payload (getD (report share twoRecords) 0 0)) ∷ lineOf share twoRecords 3;
+      computed = status share twoRecords ∷ pos (payload (getD (report share twoRecords []) 0 0)) ∷ lineOf share twoRecords 3;
       published = pos 0 ∷ pos 1 ∷ pos 0 ∷ pos 1500000 ∷ pos 0 ∷ pos 8000000 ∷ pos 9500000 ∷ pos 0 ∷ [];
     }
     ∷ []

@@ -2,7 +2,7 @@
 use mathlib.Core.Path.{_≡_}
 use mathlib.Core.Logic.{_≢_}
 use mathlib.Core.Bool.{cond}
-use mathlib.Core.List.{List, _++_}
+use mathlib.Core.List.{List, [], _++_}
 use Prim.Native.Nat.{ℕ, zero, suc, _+_, _-_, _*_, _^_, _≤_, _<_}
 use lib.Dec.{eqb}
 use lib.ListN.{length, take, drop, getD, set}
@@ -40,7 +40,7 @@ module _ (d bs ns rs m : List ℕ) where
 
 -- the answer to a batch where no memory lacks
 abbrev pub freely : List ℕ → List ℕ → Answer
-freely d b = answerOf (verdict d b) (Report (needed d b))
+freely d b = answerOf (verdict d b []) (Report (needed d b))
 
 -- the words that the first n accounts need
 unfoldable pub neededTo : List ℕ → (ℕ → List ℕ) → ℕ → ℕ
@@ -73,7 +73,7 @@ pub record InTurn : Type 0 where
   pub starts : (d bs ns rs m : List ℕ) (k : ℕ) → k ≤ length ns → accountsCheck bs ns (length rs) ≡ Passed
       → startAt d bs ns rs m k ≡ reportStart d (batchOf bs ns) (length m) k
   pub reports : (d bs ns rs m : List ℕ) (k n : ℕ) → k < length ns → accountsCheck bs ns (length rs) ≡ Passed
-      → answerFor d (batchOf bs ns) (length m) k ≡ Report n → reportAt d bs ns rs m k ≡ report d (batchOf bs ns k)
+      → answerFor d (batchOf bs ns) (length m) k ≡ Report n → reportAt d bs ns rs m k ≡ report d (batchOf bs ns k) []
   -- "a refused account .. writes no report words, and the following account goes on" where it stood
   pub refused : (d bs ns m : List ℕ) (k : ℕ) (c : Check) → answerFor d (batchOf bs ns) (length m) k ≡ Refused c
       → reportStart d (batchOf bs ns) (length m) (suc k) ≡ reportStart d (batchOf bs ns) (length m) k
@@ -112,7 +112,7 @@ pub record OtherAccounts : Type 0 where
   -- and its two numbers and its report are those of a single call with memory enough
   pub alone : (d bs ns rs m : List ℕ) (k : ℕ) → k < length ns → Enough d bs ns rs m
       → (pairAt d bs ns rs m k ≡ pairOf (freely d (batchOf bs ns k)))
-      × (Accepted d (batchOf bs ns k) → reportAt d bs ns rs m k ≡ report d (batchOf bs ns k))
+      × (Accepted d (batchOf bs ns k) [] → reportAt d bs ns rs m k ≡ report d (batchOf bs ns k) [])
 
 -- the whole outcome of two calls is the same
 pub record SameOutcome (d bs₁ ns₁ bs₂ ns₂ rs m : List ℕ) : Type 0 where
@@ -124,10 +124,10 @@ pub record SameOutcome (d bs₁ ns₁ bs₂ ns₂ rs m : List ℕ) : Type 0 wher
 pub record Inside : Type 0 where
   -- an edit in group g of book k of its batch changes that line of its report alone
   pub edits : (d bs ns x rs₁ m₁ rs₂ m₂ : List ℕ) (j g k : ℕ) → j < length ns → g < groupCount → k < 2
-      → Accepted d (batchOf bs ns j) → Accepted d x → Edit d g k (batchOf bs ns j) x
+      → Accepted d (batchOf bs ns j) [] → Accepted d x [] → Edit d g k (batchOf bs ns j) x
       → Enough d bs ns rs₁ m₁ → Enough d (editedBatches bs ns j x) (editedLengths ns j x) rs₂ m₂
       → LocalChange (reportAt d bs ns rs₁ m₁ j) (reportAt d (editedBatches bs ns j x) (editedLengths ns j x) rs₂ m₂ j) g k
   -- the order of its records changes nothing at all, even where the memory is too short
   pub orders : (d bs ns x rs m : List ℕ) (j : ℕ) → j < length ns → accountsCheck bs ns (length rs) ≡ Passed
-      → Accepted d (batchOf bs ns j) → Reordered (batchOf bs ns j) x
+      → Accepted d (batchOf bs ns j) [] → Reordered (batchOf bs ns j) x
       → SameOutcome d bs ns (editedBatches bs ns j x) (editedLengths ns j x) rs m

@@ -100,4 +100,4 @@ filesCheck dayOpened day batchOpened batch =
 -- what it prints: the answer, read from its memory of zeros after the call over words
 unfoldable pub programText : Bool → List ℕ → Bool → List ℕ → List ℕ
 programText dayOpened day batchOpened batch =
-    printed (answerOf (filesCheck dayOpened day batchOpened batch) (answer (wordsOf day) (wordsOf batch) longestReport)) (memoryAfter (wordsOf day) (wordsOf batch) (replicate longestReport 0))
+    printed (answerOf (filesCheck dayOpened day batchOpened batch) (answer (wordsOf day) (wordsOf batch) [] longestReport)) (memoryAfter (wordsOf day) (wordsOf batch) [] (replicate longestReport 0))

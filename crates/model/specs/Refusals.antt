@@ -183,7 +183,7 @@ refusals =
       published = pos 30 ∷ pos 1 ∷ [];
     }
     -- 40: twelve words for a report of thirteen
-    ∷ record { computed = numbersOf (answer day none 12); published = pos 40 ∷ pos 13 ∷ [] }
+    ∷ record { computed = numbersOf (answer day none [] 12); published = pos 40 ∷ pos 13 ∷ [] }
     ∷ []
 
 pub refusals-agree : allComputed refusals ≡ allPublished refusals

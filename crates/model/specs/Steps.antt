@@ -2,6 +2,7 @@
 -- Everywhere c is a class, s a series, g a group, k a point (0 to 9 for D5 .. D1, U1 .. U5). Debit is positive, credit negative.
 pub mod Positions
 pub mod Classes
+pub mod Cover
 pub mod Spread
 pub mod Mtm
 pub mod Premium
@@ -13,6 +14,7 @@ pub mod Margin
 pub mod Lines
 unfoldable pub use Positions.*
 unfoldable pub use Classes.*
+unfoldable pub use Cover.*
 unfoldable pub use Spread.*
 unfoldable pub use Mtm.*
 unfoldable pub use Premium.*

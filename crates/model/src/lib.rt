@@ -88,9 +88,11 @@ pub enum PositionFault {
     DvpNonSecurity,
 }
 
-// Row 30.
+// Rows 30, 50 and 51.
 pub enum NettingFault {
     NetTooLarge,
+    BadDeposit,
+    UnlikeMultipliers,
 }
 
 // Row 40.

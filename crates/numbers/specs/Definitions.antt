@@ -1,7 +1,8 @@
 -- The definitions that the model rests on, apart from their laws: sums, the first index that passes a test, extremes, lists by index, sets as numbers, writing.
-use mathlib.Core.Bool.{Bool, true, false, cond}
+use mathlib.Core.Bool.{Bool, true, false, _&&_, _||_, cond}
 use mathlib.Core.List.{List, [], _∷_, _++_}
 use Prim.Native.Nat.{ℕ, zero, suc, _+_, _/_, _%_, _^_}
+use lib.Dec.{ltb, eqb}
 use lib.IntN.{ℤ, pos, natAbs, _+ℤ_}
 use lib.ListN.{length, take, drop}
 use lib.Signed.{ltZ}
@@ -17,6 +18,14 @@ sumTo (suc n) f = sumTo n f +ℤ f n
 -- over those at which a test holds
 abbrev pub sumWhere : ℕ → (ℕ → Bool) → (ℕ → ℤ) → ℤ
 sumWhere n t f = sumTo n (λ i. cond (t i) (f i) (pos 0))
+
+-- the same of naturals (laws: Budget)
+unfoldable pub sumN : ℕ → (ℕ → ℕ) → ℕ
+sumN zero f = 0
+sumN (suc n) f = sumN n f + f n
+
+abbrev pub sumNWhere : ℕ → (ℕ → Bool) → (ℕ → ℕ) → ℕ
+sumNWhere n t f = sumN n (λ i. cond (t i) (f i) 0)
 
 -- ---- the first index below n at which a test holds, or none (laws: Scan)
 
@@ -42,6 +51,16 @@ hit Nothing = false
 -- the test holds at some index below n
 abbrev pub anyBelow : ℕ → (ℕ → Bool) → Bool
 anyBelow n t = hit (firstBad t n)
+
+-- ---- orders of indices, as a test whether i goes before j (laws: Order)
+
+-- the lower index first
+abbrev pub byPlace : ℕ → ℕ → Bool
+byPlace i j = ltb i j
+
+-- the larger x first, and r among equals
+abbrev pub largerThen : (ℕ → ℕ) → (ℕ → ℕ → Bool) → ℕ → ℕ → Bool
+largerThen x r i j = ltb (x j) (x i) || (eqb (x i) (x j) && r i j)
 
 -- ---- the smaller and the larger of two integers, the size of one, the largest of some and 0 (laws: Extremes)
 

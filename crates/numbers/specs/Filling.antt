@@ -42,3 +42,13 @@ module _ {A : Type 0} where
 
     pub filled-all : (k : ℕ) → n ≤ k → filled n f g k ≡ tabulate n f
     filled-all k h = tabulate-ext n (λ i. cond (ltb i k) (f i) (g i)) f (λ i p. rw (lt-ltb i k (omega arith)))
+
+    -- a stretch in which f and g agree counts as filled
+    pub filled-kept : (k m : ℕ) → k ≤ m → ((i : ℕ) → k ≤ i → i < m → f i ≡ g i) → filled n f g k ≡ filled n f g m
+    filled-kept k m h e =
+        tabulate-ext n (λ i. cond (ltb i k) (f i) (g i)) (λ i. cond (ltb i m) (f i) (g i)) (λ i p. by i (decLt i k) (decLt i m))
+      where
+        by : (i : ℕ) → Dec (i < k) → Dec (i < m) → cond (ltb i k) (f i) (g i) ≡ cond (ltb i m) (f i) (g i)
+        by i (yes l) q = rw (lt-ltb i k l, lt-ltb i m (omega arith))
+        by i (no l) (yes q) = rw (le-ltb i k (omega arith), lt-ltb i m q) (sym (e i (omega arith) q))
+        by i (no l) (no q) = rw (le-ltb i k (omega arith), le-ltb i m (omega arith))

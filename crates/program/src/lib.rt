@@ -1,5 +1,6 @@
 // What the report program prints for its two files.
 ghost use mathlib.Core.Path.{_≡_};
+ghost use mathlib.Core.List.{[]};
 ghost use Prim.Native.Nat.{_*_, _≤_};
 ghost use lib.ListN.{length, replicate};
 ghost use Rattle.io.specs.Counts.{Counts};
@@ -24,7 +25,7 @@ fn answer_files(
 ) -> Answer
     requires { ⌜ now memory ≡ replicate (4 * longestReport) 0 ⌝ }
     ensures { λ r. ⌜ r ≡ filesAnswer «day_opened» (now (day .entry)) «batch_opened» (now (batch .entry)) ⌝ }
-    ensures { λ r. ⌜ now (memory .exit) ≡ writtenBytes r (reportOf (wordsOf (now (day .entry))) (wordsOf (now (batch .entry)))) (replicate (4 * longestReport) 0) ⌝ }
+    ensures { λ r. ⌜ now (memory .exit) ≡ writtenBytes r (reportOf (wordsOf (now (day .entry))) (wordsOf (now (batch .entry))) []) (replicate (4 * longestReport) 0) ⌝ }
 {
     if let Verdict::Failed(k) = byte_check::check_files(day_opened, day, batch_opened, batch) {
         return Answer::Refused(k);
@@ -47,7 +48,7 @@ fn print_through(
     requires { ⌜ longestText ≤ length (now out) ⌝ }
     ensures { λ r. ⌜ (r ≡ length (programText «day_opened» (now (day .entry)) «batch_opened» (now (batch .entry)))) × (now (out .exit) ≡ put 0 (programText «day_opened» (now (day .entry)) «batch_opened» (now (batch .entry))) (now (out .entry))) ⌝ }
     ensures { λ r. ⌜ Counts r (now (out .exit)) ⌝ }
-    ensures { λ _. ⌜ now (memory .exit) ≡ writtenBytes (filesAnswer «day_opened» (now (day .entry)) «batch_opened» (now (batch .entry))) (reportOf (wordsOf (now (day .entry))) (wordsOf (now (batch .entry)))) (replicate (4 * longestReport) 0) ⌝ }
+    ensures { λ _. ⌜ now (memory .exit) ≡ writtenBytes (filesAnswer «day_opened» (now (day .entry)) «batch_opened» (now (batch .entry))) (reportOf (wordsOf (now (day .entry))) (wordsOf (now (batch .entry))) []) (replicate (4 * longestReport) 0) ⌝ }
     ensures { λ _. ⌜ now (words .exit) ≡ put 0 (wordsOf (now (memory .exit))) (now (words .entry)) ⌝ }
 {
     let answer = answer_files(day_opened, day, batch_opened, batch, memory);
@@ -85,8 +86,8 @@ pub fn print_words(day: &[u32], batch: &[u32], memory: &mut [u32], out: &mut [u8
     requires { ⌜ longestText ≤ length (now out) ⌝ }
     ensures { λ r. ⌜ (r ≡ length (callText (now (day .entry)) (now (batch .entry)) (now (memory .entry)))) × (now (out .exit) ≡ put 0 (callText (now (day .entry)) (now (batch .entry)) (now (memory .entry))) (now (out .entry))) ⌝ }
     ensures { λ r. ⌜ Counts r (now (out .exit)) ⌝ }
-    ensures { λ _. ⌜ now (memory .exit) ≡ memoryAfter (now (day .entry)) (now (batch .entry)) (now (memory .entry)) ⌝ }
+    ensures { λ _. ⌜ now (memory .exit) ≡ memoryAfter (now (day .entry)) (now (batch .entry)) [] (now (memory .entry)) ⌝ }
 {
-    let answer = report::report(day, batch, memory);
+    let answer = report::report(day, batch, &day[..0], memory);
     text::lines::write_answer(answer, memory, out)
 }

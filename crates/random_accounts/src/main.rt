@@ -1,7 +1,7 @@
 // Runs the call over words on the accounts of cases.w32 and prints each answer; what must come out is the reckoner's.
 ghost use Prim.Native.Nat.{_*_, _≤_};
 ghost use mathlib.Core.Path.{_≡_};
-ghost use mathlib.Core.List.{_++_};
+ghost use mathlib.Core.List.{[], _++_};
 ghost use lib.ListN.{length, take, drop};
 ghost use Rattle.io.specs.Counts.{Counts};
 ghost use Rattle.numbers.specs.Put.{put};
@@ -50,7 +50,7 @@ fn read_words(fd: i32, n: usize, bytes: &mut [u8], words: &mut [u32]) -> usize
 // Case i: its heading, then the report or the refusal.
 fn print_case(i: u32, day: &[u32], batch: &[u32], memory: &mut [u32], out: &mut [u8])
     requires { ⌜ longestText ≤ length (now out) ⌝ }
-    ensures { λ _. ⌜ now (memory .exit) ≡ memoryAfter (now (day .entry)) (now (batch .entry)) (now (memory .entry)) ⌝ }
+    ensures { λ _. ⌜ now (memory .exit) ≡ memoryAfter (now (day .entry)) (now (batch .entry)) [] (now (memory .entry)) ⌝ }
     ensures { λ _. ⌜ now (out .exit) ≡ put 0 (callText (now (day .entry)) (now (batch .entry)) (now (memory .entry))) (now (out .entry)) ⌝ }
 {
     io::write_all(STDOUT_FILENO, b"CASE ");
@@ -70,7 +70,7 @@ fn print_fronts(
     out: &mut [u8],
 )
     requires { ⌜ longestText ≤ length (now out) ⌝ }
-    ensures { λ _. ⌜ now (memory .exit) ≡ memoryAfter (front (now (lengths .entry)) 0 (now (day .entry))) (front (now (lengths .entry)) 1 (now (batch .entry))) (front (now (lengths .entry)) 2 (now (memory .entry))) ++ behind (now (lengths .entry)) 2 (now (memory .entry)) ⌝ }
+    ensures { λ _. ⌜ now (memory .exit) ≡ memoryAfter (front (now (lengths .entry)) 0 (now (day .entry))) (front (now (lengths .entry)) 1 (now (batch .entry))) [] (front (now (lengths .entry)) 2 (now (memory .entry))) ++ behind (now (lengths .entry)) 2 (now (memory .entry)) ⌝ }
     ensures { λ _. ⌜ now (out .exit) ≡ put 0 (callText (front (now (lengths .entry)) 0 (now (day .entry))) (front (now (lengths .entry)) 1 (now (batch .entry))) (front (now (lengths .entry)) 2 (now (memory .entry)))) (now (out .entry)) ⌝ }
 {
     let held = lengths_within(lengths, day.len(), batch.len(), memory.len());

@@ -1,4 +1,5 @@
-// The whole report of an accepted account: header, maps, lines and totals; and row 40.
+// The whole report of an accepted account: header, maps, lines and totals; and row 40. Which groups have a line goes by `nets`, the
+// amounts by `after`.
 ghost use mathlib.Core.Path.{_≡_};
 ghost use Prim.Native.Nat.{_+_, _*_, _≤_, _<_};
 ghost use lib.Count.{ones};
@@ -28,6 +29,7 @@ fn write_report(
     day: &[u32],
     starts: &[usize; STARTS],
     nets: &[i64],
+    after: &[i64],
     dvps: &[i64],
     ordinary: u32,
     fail: u32,
@@ -35,19 +37,20 @@ fn write_report(
     memory: &mut [u32],
 )
     requires { ⌜ DayRows (now day) ⌝ }
-    requires { ⌜ Budget (now day) (entry (now nets)) (entry (now dvps)) ⌝ }
+    requires { ⌜ Budget (now day) (entry (now after)) (entry (now dvps)) ⌝ }
     requires { ⌜ now starts ≡ startTable (now day) ⌝ }
     requires { ⌜ ordinary ≡ bookMap (now day) (entry (now nets)) (entry (now dvps)) 0 ⌝ }
     requires { ⌜ fail ≡ bookMap (now day) (entry (now nets)) (entry (now dvps)) 1 ⌝ }
     requires { ⌜ (count ≡ ones ordinary + ones fail) × (wordsFor count ≤ length (now memory)) ⌝ }
-    ensures { λ _. ⌜ now (memory .exit) ≡ put 0 (reportWords (now (day .entry)) (entry (now (nets .entry))) (entry (now (nets .entry))) (entry (now (dvps .entry)))) (now (memory .entry)) ⌝ }
+    ensures { λ _. ⌜ now (memory .exit) ≡ put 0 (reportWords (now (day .entry)) (entry (now (nets .entry))) (entry (now (after .entry))) (entry (now (dvps .entry)))) (now (memory .entry)) ⌝ }
 {
     write_maps(memory, count, ordinary, fail);
-    let ordinary_total = write_book(day, starts, nets, dvps, 0, ordinary, memory, 3);
+    let ordinary_total = write_book(day, starts, nets, after, dvps, 0, ordinary, memory, 3);
     let fail_total = write_book(
         day,
         starts,
         nets,
+        after,
         dvps,
         1,
         fail,
@@ -67,14 +70,15 @@ pub fn report_accepted(
     day: &[u32],
     starts: &[usize; STARTS],
     nets: &[i64],
+    after: &[i64],
     dvps: &[i64],
     memory: &mut [u32],
 ) -> Answer
     requires { ⌜ DayRows (now day) ⌝ }
-    requires { ⌜ Budget (now day) (entry (now nets)) (entry (now dvps)) ⌝ }
+    requires { ⌜ Budget (now day) (entry (now after)) (entry (now dvps)) ⌝ }
     requires { ⌜ now starts ≡ startTable (now day) ⌝ }
     ensures { λ r. ⌜ r ≡ roomAnswer (wordsNeeded (now (day .entry)) (entry (now (nets .entry))) (entry (now (dvps .entry)))) (length (now (memory .entry))) ⌝ }
-    ensures { λ r. ⌜ now (memory .exit) ≡ written r (reportWords (now (day .entry)) (entry (now (nets .entry))) (entry (now (nets .entry))) (entry (now (dvps .entry)))) (now (memory .entry)) ⌝ }
+    ensures { λ r. ⌜ now (memory .exit) ≡ written r (reportWords (now (day .entry)) (entry (now (nets .entry))) (entry (now (after .entry))) (entry (now (dvps .entry)))) (now (memory .entry)) ⌝ }
 {
     let ordinary = book_map(day, starts, nets, dvps, 0);
     let fail = book_map(day, starts, nets, dvps, 1);
@@ -83,6 +87,16 @@ pub fn report_accepted(
     if memory.len() < needed {
         return Answer::Refused(Check::Report(ReportFault::TooShort, needed));
     }
-    write_report(day, starts, nets, dvps, ordinary, fail, count, memory);
+    write_report(
+        day,
+        starts,
+        nets,
+        after,
+        dvps,
+        ordinary,
+        fail,
+        count,
+        memory,
+    );
     Answer::Report(needed)
 }

@@ -1,6 +1,7 @@
 // The types of a series: no other place has their numbers.
 ghost use mathlib.Core.Path.{_≡_};
 ghost use Rattle.model.specs.DayFile.{isFuture, isCall, isPut, isOption, isEquity, isWarrant, isRights, isSecurity, isDerivative};
+ghost use Rattle.model.specs.Steps.Cover.{isCoverable};
 
 // Type 1.
 pub fn is_future(t: u32) -> bool
@@ -63,4 +64,11 @@ pub fn is_derivative(t: u32) -> bool
     ensures { λ r. ⌜ r ≡ isDerivative t ⌝ }
 {
     is_future(t) | is_option(t)
+}
+
+// A type that deposits cover: a future.
+pub fn is_coverable(t: u32) -> bool
+    ensures { λ r. ⌜ r ≡ isCoverable t ⌝ }
+{
+    is_future(t)
 }

@@ -1,8 +1,9 @@
-//! The unit's calls timed in one run beside others that do the same work: the byte call and netting alone beside plain Rust, all
-//! accounts of a broker in one call beside as many byte calls. Fails where a ratio is above its limit.
+//! The unit's calls timed in one run beside others that do the same work: the byte call, the call over words, with deposits too, and
+//! netting alone beside plain Rust, all accounts of a broker in one call beside as many byte calls. Fails where a ratio is above its limit.
 //! From the top folder: `rt staticlib mars`, `rt staticlib netting_times`; here `cargo run --release --features bench --bin bench`.
 use harness::accounts::{accepted, batch, Account, Size, LARGEST, TYPICAL};
 use harness::cases::LONGEST;
+use harness::deposits::half_covered;
 use harness::many::joined;
 use harness::places::{Placed, Places};
 use harness::plain::{self, NETS};
@@ -70,6 +71,36 @@ fn byte_call(name: &str, size: Size) -> Figure {
         times.round(places, [Call(1, &mut unit_call), Call(1, &mut plain_call)]);
         assert!(*ours == report && *theirs == report, "a report differs");
     })
+}
+
+/// The call over words beside plain Rust.
+fn word_call(name: String, limit: Option<f64>, (a, deposits): (Account, Vec<u32>)) -> Figure {
+    let mut report = [0; LONGEST];
+    unit::call_words(&a.day, &a.batch, &deposits, &mut report).expect("accepted");
+    Figure::new(name, limit, move |places, times| {
+        let [day, batch, deposits] = [&a.day, &a.batch, &deposits].map(|content| places.memory(content));
+        let [mut ours, mut theirs] = [(); 2].map(|_| places.memory(&[0; LONGEST]));
+        let mut unit_call = || {
+            black_box(unit::call_words(black_box(&day), black_box(&batch), black_box(&deposits), black_box(&mut ours))).ok();
+        };
+        let mut plain_call = || {
+            black_box(plain::call_words(black_box(&day), black_box(&batch), black_box(&deposits), black_box(&mut theirs)));
+        };
+        times.round(places, [Call(1, &mut unit_call), Call(1, &mut plain_call)]);
+        assert!(*ours == report && *theirs == report, "a report differs");
+    })
+}
+
+/// Without deposits, which must cost nothing.
+fn no_deposits(name: &str, size: Size) -> Figure {
+    word_call(format!("words, {name}, no deposits : plain Rust"), None, (account(size), Vec::new()))
+}
+
+/// A deposit for each of so many classes, which have 256 futures in all.
+fn deposits(classes: u32, limit: Option<f64>) -> Figure {
+    let futures = 256 / classes;
+    let name = format!("words, deposits for {classes} x {futures} futures : plain Rust");
+    word_call(name, limit, half_covered(&mut Rng::new(5), classes, futures))
 }
 
 /// 64 accounts of one day file in one call, beside a byte call for each.
@@ -155,6 +186,11 @@ fn main() {
     let mut figures = [
         byte_call("largest", LARGEST),
         byte_call("typical", TYPICAL),
+        no_deposits("largest", LARGEST),
+        no_deposits("typical", TYPICAL),
+        deposits(64, Some(3.0)),
+        deposits(16, Some(3.0)),
+        deposits(1, None),
         all_accounts("typical", TYPICAL, Some(0.8)),
         all_accounts("largest", LARGEST, None),
         netting(&format!("netting of {records} records : plain Rust, one table"), 10.0, 1, one_table),

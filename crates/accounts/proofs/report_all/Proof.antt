@@ -2,7 +2,7 @@ use borrow.Author.Needs.{needs}
 use borrow.Rule.Slice.PartMut.{midOf}
 use native.Mathlib.Omega.{arith}
 use mathlib.Core.Path.{_≡_, sym, ap, _∙_}
-use mathlib.Core.List.{List, _++_}
+use mathlib.Core.List.{List, [], _++_}
 use Prim.Native.Nat.{ℕ, _+_, _-_, _*_, _^_, _≤_, _<_}
 use lib.ListN.{length, take, drop, length-drop}
 use denote.Ref.{now}
@@ -103,8 +103,8 @@ module _ (c : tie.After-turn Inv-loop μ-loop) where
   answer-is : c .turn .result ≡ answerFor (d k) (b k) (length (m k)) (i k)
   answer-is =
       c .turn .ensures .0
-      ∙ (λ j. answer (d k) (part j) ((ap length (rest-is (k .loop .at) (k .loop .memory)) ∙ length-drop (k .loop .at) (k .loop .memory)) j))
-      ∙ (λ j. answer (d k) (b k (i k)) (long-memory k j - k .loop .inv .2 j))
+      ∙ (λ j. answer (d k) (part j) [] ((ap length (rest-is (k .loop .at) (k .loop .memory)) ∙ length-drop (k .loop .at) (k .loop .memory)) j))
+      ∙ (λ j. answer (d k) (b k (i k)) [] (long-memory k j - k .loop .inv .2 j))
 
 turn-requires : tie.Need-turn-requires Inv-loop μ-loop
 turn-requires c κs =
@@ -145,9 +145,9 @@ loop-again c =
       a .turn .ensures .1
           ∙ (λ j. put (resultNumbers * i k) (pairOf (answer-is a j)) (k .loop .inv .3 j))
           ∙ sym (results-more (d k) (b k) (length (m k)) (rs k) (i k)),
-      rest-part (k .loop .at) (k .loop .memory) _ (memoryAfter (d k) (b k (i k)))
-          (a .turn .ensures .2 ∙ (λ j. memoryAfter (d k) (part a j) (midOf (k .loop .at) (length (k .loop .memory) - k .loop .at) (k .loop .memory))))
-          ∙ (λ j. take (k .loop .inv .2 j) (k .loop .inv .4 j) ++ memoryAfter (d k) (b k (i k)) (drop (k .loop .inv .2 j) (k .loop .inv .4 j)))
+      rest-part (k .loop .at) (k .loop .memory) _ (memoryAfter (d k) (b k (i k)) [])
+          (a .turn .ensures .2 ∙ (λ j. memoryAfter (d k) (part a j) [] (midOf (k .loop .at) (length (k .loop .memory) - k .loop .at) (k .loop .memory))))
+          ∙ (λ j. take (k .loop .inv .2 j) (k .loop .inv .4 j) ++ memoryAfter (d k) (b k (i k)) [] (drop (k .loop .inv .2 j) (k .loop .inv .4 j)))
           ∙ sym (memory-more (d k) (b k) (m k) (i k)),
     )
 

@@ -1,5 +1,6 @@
 use native.Mathlib.Omega.{arith}
 use mathlib.Core.Path.{sym, _∙_}
+use mathlib.Core.List.{[]}
 use Prim.Native.Nat.{_/_, _≤_}
 use lib.ListN.{length}
 use lib.Seq.{length-take-le}
@@ -42,7 +43,7 @@ returns c =
     let m = now (s .args .memory) in
     let p = s .pre .1 .0 in
     let q = s .pre .1 .1 in
-    (r .report-words .ensures .0 ∙ (λ i. answer (p i) (q i) (length m / 4)), r .report-words .ensures .1 ∙ (λ i. writtenBytes (r .report-words .result) (report (p i) (q i)) m))
+    (r .report-words .ensures .0 ∙ (λ i. answer (p i) (q i) [] (length m / 4)), r .report-words .ensures .1 ∙ (λ i. writtenBytes (r .report-words .result) (report (p i) (q i) []) m))
 
 pub report-decoded-spec : {M : Type 1} → statement M
 report-decoded-spec =

@@ -12,15 +12,15 @@ use Rattle.report.proofs.after_day.Tie as tie
 
 returns : tie.Need-returns
 returns c =
-    let s = c .before .before .before .before .before .before in
-    let e = answer-day (now (s .args .day)) (now (s .args .batch)) (length (now (s .args .memory))) _ (sym (s .pre) ∙ c .before .verdict .given .1) in
-    (e, memory-of (now (s .args .day)) (now (s .args .batch)) (now (s .args .memory)) _ e)
+    let s = c .before .before .before .before .before .before .before in
+    let e = answer-day (now (s .args .day)) (now (s .args .batch)) (now (s .args .deposits)) (length (now (s .args .memory))) _ (sym (s .pre) ∙ c .before .verdict .given .1) in
+    (e, memory-of (now (s .args .day)) (now (s .args .batch)) (now (s .args .deposits)) (now (s .args .memory)) _ e)
 
-fine : (c : tie.After-enum-told) → dayCheck (now (c .before .before .before .before .before .args .day)) ≡ Passed
-fine c = sym (c .before .before .before .before .before .pre) ∙ c .enum-told .given .1
+fine : (c : tie.After-enum-told) → dayCheck (now (c .before .before .before .before .before .before .args .day)) ≡ Passed
+fine c = sym (c .before .before .before .before .before .before .pre) ∙ c .enum-told .given .1
 
 starts-requires : tie.Need-starts-requires
-starts-requires c κs = day-checked (now (c .before .before .before .before .before .args .day)) (fine c)
+starts-requires c κs = day-checked (now (c .before .before .before .before .before .before .args .day)) (fine c)
 
 report-of-day-requires : tie.Need-report-of-day-requires
 report-of-day-requires c κs = (fine (c .before .before .before), c .before .before .starts .ensures)

@@ -26,6 +26,9 @@ module _ (c : tie.After-index) where
   abbrev n : ℕ → ℤ
   n = entry (now (s .args .nets))
 
+  abbrev u : ℕ → ℤ
+  u = entry (now (s .args .after))
+
   abbrev v : ℕ → ℤ
   v = entry (now (s .args .dvps))
 
@@ -53,8 +56,8 @@ returns-2 c =
     let m = now (s a .args .memory) in
     let h : words a ≤ length m = c .before .before .before .before .if1 .left in (
       rw (← needed a, le-leb (words a) (length m) h),
-      c .before .before .write-report .ensures ∙ put-front (reportWords (d a) (n a) (n a) (v a)) m
-          ∙ ap (λ (x : ℕ). reportWords (d a) (n a) (n a) (v a) ++ drop x m) (report-length (d a) (n a) (n a) (v a) ∙ sym (needed a)),
+      c .before .before .write-report .ensures ∙ put-front (reportWords (d a) (n a) (u a) (v a)) m
+          ∙ ap (λ (x : ℕ). reportWords (d a) (n a) (u a) (v a) ++ drop x m) (report-length (d a) (n a) (u a) (v a) ∙ sym (needed a)),
     )
 
 pub report-accepted-spec : {M : Type 1} → statement M

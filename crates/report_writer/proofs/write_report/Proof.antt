@@ -30,6 +30,9 @@ module _ (s : tie.Start) where
   abbrev n : ℕ → ℤ
   n = entry (now (s .args .nets))
 
+  abbrev u : ℕ → ℤ
+  u = entry (now (s .args .after))
+
   abbrev v : ℕ → ℤ
   v = entry (now (s .args .dvps))
 
@@ -48,11 +51,11 @@ module _ (s : tie.Start) where
   abbrev first : List ℕ
   first = three (s .args .count) (s .args .ordinary) (s .args .fail)
 
-  ordinary-lines : length (bookLines d n n v 0) ≡ wordsALine * ones (s .args .ordinary)
-  ordinary-lines = lines-length d n n v 0 (s .args .ordinary) (s .pre .1 .1 .1 .0)
+  ordinary-lines : length (bookLines d n u v 0) ≡ wordsALine * ones (s .args .ordinary)
+  ordinary-lines = lines-length d n u v 0 (s .args .ordinary) (s .pre .1 .1 .1 .0)
 
-  fail-lines : length (bookLines d n n v 1) ≡ wordsALine * ones (s .args .fail)
-  fail-lines = lines-length d n n v 1 (s .args .fail) (s .pre .1 .1 .1 .1 .0)
+  fail-lines : length (bookLines d n u v 1) ≡ wordsALine * ones (s .args .fail)
+  fail-lines = lines-length d n u v 1 (s .args .fail) (s .pre .1 .1 .1 .1 .0)
 
   room : wordsFor (ones (s .args .ordinary) + ones (s .args .fail)) ≤ length m
   room = omega (arith, s .pre .1 .1 .1 .1 .1 .0, s .pre .1 .1 .1 .1 .1 .1)
@@ -68,14 +71,14 @@ write-book-requires c κs =
 
 module _ (c : tie.After-write-book) where
   -- header, maps and the ordinary lines
-  ordinary-put : c .write-book .last .1 .1 .1 .1 .1 .1 .0 ≡ put 0 (first (c .before .before .before .before .before .before .before .before) ++ bookLines (d (c .before .before .before .before .before .before .before .before)) (n (c .before .before .before .before .before .before .before .before)) (n (c .before .before .before .before .before .before .before .before)) (v (c .before .before .before .before .before .before .before .before)) 0) (m (c .before .before .before .before .before .before .before .before))
+  ordinary-put : c .write-book .last .1 .1 .1 .1 .1 .1 .1 .0 ≡ put 0 (first (c .before .before .before .before .before .before .before .before) ++ bookLines (d (c .before .before .before .before .before .before .before .before)) (n (c .before .before .before .before .before .before .before .before)) (u (c .before .before .before .before .before .before .before .before)) (v (c .before .before .before .before .before .before .before .before)) 0) (m (c .before .before .before .before .before .before .before .before))
   ordinary-put =
       let s = c .before .before .before .before .before .before .before .before in
-      c .write-book .ensures .1 ∙ ap (put 3 (bookLines (d s) (n s) (n s) (v s) 0)) (c .before .before .before .before .write-maps .ensures)
-      ∙ put-put 0 (first s) (bookLines (d s) (n s) (n s) (v s) 0) (m s) 3 (omega arith) (omega (arith, ordinary-lines s, room s))
+      c .write-book .ensures .1 ∙ ap (put 3 (bookLines (d s) (n s) (u s) (v s) 0)) (c .before .before .before .before .write-maps .ensures)
+      ∙ put-put 0 (first s) (bookLines (d s) (n s) (u s) (v s) 0) (m s) 3 (omega arith) (omega (arith, ordinary-lines s, room s))
 
-  ordinary-kept : length (c .write-book .last .1 .1 .1 .1 .1 .1 .0) ≡ length (m (c .before .before .before .before .before .before .before .before))
-  ordinary-kept = c .write-book .kept .1 .1 .1 .1 .1 .1 .0 ∙ c .before .before .before .before .write-maps .kept .0
+  ordinary-kept : length (c .write-book .last .1 .1 .1 .1 .1 .1 .1 .0) ≡ length (m (c .before .before .before .before .before .before .before .before))
+  ordinary-kept = c .write-book .kept .1 .1 .1 .1 .1 .1 .1 .0 ∙ c .before .before .before .before .write-maps .kept .0
 
 write-book-requires-2 : tie.Need-write-book-requires-2
 write-book-requires-2 c κs =
@@ -102,46 +105,46 @@ module _ (c : tie.After-write-book2) where
   o = c .before .before .before .before .before .before .before .before .before .before .before .before .before
 
   abbrev lines : List ℕ
-  lines = (first o ++ bookLines (d o) (n o) (n o) (v o) 0) ++ bookLines (d o) (n o) (n o) (v o) 1
+  lines = (first o ++ bookLines (d o) (n o) (u o) (v o) 0) ++ bookLines (d o) (n o) (u o) (v o) 1
 
   -- .. and the fail lines
-  both-put : c .write-book2 .last .1 .1 .1 .1 .1 .1 .0 ≡ put 0 lines (m o)
+  both-put : c .write-book2 .last .1 .1 .1 .1 .1 .1 .1 .0 ≡ put 0 lines (m o)
   both-put =
-      c .write-book2 .ensures .1 ∙ ap (put (3 + wordsALine * c .before .index .result) (bookLines (d o) (n o) (n o) (v o) 1)) (ordinary-put (c .before .before .before .before .before))
-      ∙ put-put 0 (first o ++ bookLines (d o) (n o) (n o) (v o) 0) (bookLines (d o) (n o) (n o) (v o) 1) (m o) (3 + wordsALine * c .before .index .result)
-      (omega (arith, c .before .index .ensures, ordinary-lines o, length-append (first o) (bookLines (d o) (n o) (n o) (v o) 0)))
+      c .write-book2 .ensures .1 ∙ ap (put (3 + wordsALine * c .before .index .result) (bookLines (d o) (n o) (u o) (v o) 1)) (ordinary-put (c .before .before .before .before .before))
+      ∙ put-put 0 (first o ++ bookLines (d o) (n o) (u o) (v o) 0) (bookLines (d o) (n o) (u o) (v o) 1) (m o) (3 + wordsALine * c .before .index .result)
+      (omega (arith, c .before .index .ensures, ordinary-lines o, length-append (first o) (bookLines (d o) (n o) (u o) (v o) 0)))
       (omega (arith, c .before .index .ensures, fail-lines o, room o))
 
   lines-long : length lines ≡ 3 + wordsALine * o .args .count
   lines-long =
       omega (
         arith,
-        length-append (first o ++ bookLines (d o) (n o) (n o) (v o) 0) (bookLines (d o) (n o) (n o) (v o) 1),
-        length-append (first o) (bookLines (d o) (n o) (n o) (v o) 0),
+        length-append (first o ++ bookLines (d o) (n o) (u o) (v o) 0) (bookLines (d o) (n o) (u o) (v o) 1),
+        length-append (first o) (bookLines (d o) (n o) (u o) (v o) 0),
         ordinary-lines o,
         fail-lines o,
         o .pre .1 .1 .1 .1 .1 .0,
       )
 
-  both-kept : length (c .write-book2 .last .1 .1 .1 .1 .1 .1 .0) ≡ length (m o)
-  both-kept = c .write-book2 .kept .1 .1 .1 .1 .1 .1 .0 ∙ ordinary-kept (c .before .before .before .before .before)
+  both-kept : length (c .write-book2 .last .1 .1 .1 .1 .1 .1 .1 .0) ≡ length (m o)
+  both-kept = c .write-book2 .kept .1 .1 .1 .1 .1 .1 .1 .0 ∙ ordinary-kept (c .before .before .before .before .before)
 
-  ordinary-is : toZ w64 (ofZ w64 (c .before .before .before .before .before .write-book .result)) ≡ total (d o) (n o) (n o) (v o) 0
-  ordinary-is = back (c .before .before .before .before .before .write-book .ensures .0) (total-small (d o) (n o) (v o) (o .pre .0) (o .pre .1 .0) (n o) 0 (omega arith))
+  ordinary-is : toZ w64 (ofZ w64 (c .before .before .before .before .before .write-book .result)) ≡ total (d o) (n o) (u o) (v o) 0
+  ordinary-is = back (c .before .before .before .before .before .write-book .ensures .0) (total-small (d o) (u o) (v o) (o .pre .0) (o .pre .1 .0) (n o) 0 (omega arith))
 
-  fail-is : toZ w64 (ofZ w64 (c .write-book2 .result)) ≡ total (d o) (n o) (n o) (v o) 1
-  fail-is = back (c .write-book2 .ensures .0) (total-small (d o) (n o) (v o) (o .pre .0) (o .pre .1 .0) (n o) 1 (omega arith))
+  fail-is : toZ w64 (ofZ w64 (c .write-book2 .result)) ≡ total (d o) (n o) (u o) (v o) 1
+  fail-is = back (c .write-book2 .ensures .0) (total-small (d o) (u o) (v o) (o .pre .0) (o .pre .1 .0) (n o) 1 (omega arith))
 
-  small : Small (totals (d o) (n o) (n o) (v o))
-  small = totals-small (d o) (n o) (n o) (v o) (o .pre .0) (o .pre .1 .0)
+  small : Small (totals (d o) (n o) (u o) (v o))
+  small = totals-small (d o) (n o) (u o) (v o) (o .pre .0) (o .pre .1 .0)
 
 add-requires : tie.Need-add-requires
 add-requires c κs =
     let w = c .before .before in
-    fits-by (λ i. ordinary-is w i +ℤ fail-is w i) (account-small (d (o w)) (n (o w)) (v (o w)) (o w .pre .0) (o w .pre .1 .0) (n (o w)))
+    fits-by (λ i. ordinary-is w i +ℤ fail-is w i) (account-small (d (o w)) (u (o w)) (v (o w)) (o w .pre .0) (o w .pre .1 .0) (n (o w)))
 
 -- the three totals as they are handed on
-totals-are : (c : tie.After-add) → (toZ w64 (ofZ w64 (c .before .before .before .before .before .before .before .before .write-book .result)) ∷ toZ w64 (ofZ w64 (c .before .before .before .write-book2 .result)) ∷ toZ w64 (ofZ w64 (c .add .result)) ∷ []) ≡ totals (d (o (c .before .before .before))) (n (o (c .before .before .before))) (n (o (c .before .before .before))) (v (o (c .before .before .before)))
+totals-are : (c : tie.After-add) → (toZ w64 (ofZ w64 (c .before .before .before .before .before .before .before .before .write-book .result)) ∷ toZ w64 (ofZ w64 (c .before .before .before .write-book2 .result)) ∷ toZ w64 (ofZ w64 (c .add .result)) ∷ []) ≡ totals (d (o (c .before .before .before))) (n (o (c .before .before .before))) (u (o (c .before .before .before))) (v (o (c .before .before .before)))
 unfolding totals
 totals-are c =
     let w = c .before .before .before in
@@ -158,14 +161,14 @@ returns c =
     let w = c .before .before .before .before .before .before .before .before .before in
     let a = 3 + wordsALine * c .before .before .before .before .index2 .result in
     let e : a ≡ length (lines w) = omega (arith, c .before .before .before .before .index2 .ensures, lines-long w) in
-    let l = ends (d (o w)) (n (o w)) (n (o w)) (v (o w)) in
-    let nine : length (totals (d (o w)) (n (o w)) (n (o w)) (v (o w))) ≡ 3 = three-totals (d (o w)) (n (o w)) (n (o w)) (v (o w)) in
+    let l = ends (d (o w)) (n (o w)) (u (o w)) (v (o w)) in
+    let nine : length (totals (d (o w)) (n (o w)) (u (o w)) (v (o w))) ≡ 3 = three-totals (d (o w)) (n (o w)) (u (o w)) (v (o w)) in
     c .before .before .write-headed-at .ensures
     ∙ (λ i. put a (word 7 0 ∷ wordsOfAmounts (totals-are (c .before .before .before .before .before .before) i)) (both-put w i))
     ∙ put-put 0 (lines w) l (m (o w)) a (omega (arith, e))
-    (omega (arith, e, lines-long w, words-length (totals (d (o w)) (n (o w)) (n (o w)) (v (o w))), o w .pre .1 .1 .1 .1 .1 .1))
+    (omega (arith, e, lines-long w, words-length (totals (d (o w)) (n (o w)) (u (o w)) (v (o w))), o w .pre .1 .1 .1 .1 .1 .1))
     ∙ ap (λ (x : List ℕ). put 0 x (m (o w)))
-    (report-parts (d (o w)) (n (o w)) (n (o w)) (v (o w)) (o w .args .count) (o w .args .ordinary) (o w .args .fail) (o w .pre .1 .1 .1 .1 .1 .0) (o w .pre .1 .1 .1 .0) (o w .pre .1 .1 .1 .1 .0))
+    (report-parts (d (o w)) (n (o w)) (u (o w)) (v (o w)) (o w .args .count) (o w .args .ordinary) (o w .args .fail) (o w .pre .1 .1 .1 .1 .1 .0) (o w .pre .1 .1 .1 .0) (o w .pre .1 .1 .1 .1 .0))
 
 pub write-report-spec : {M : Type 1} → statement M
 write-report-spec =

@@ -23,13 +23,13 @@ use Rattle.books.proofs.book.write_book.Tie as tie
 use Rattle.model.specs.Limits.{groupCount}
 
 abbrev Inv-loop : tie.InvT-loop
-Inv-loop day starts nets dvps book map memory₀ at p₀ g₀ memory p g =
-    (g ≤ groupCount) × (p .at ≡ at + length (linesBelow day (entry nets) (entry nets) (entry dvps) book g))
-    × (p .total ≡ sumWhere g (hasLine day (entry nets) (entry dvps) book) (margin day (entry nets) (entry dvps) book))
-    × (memory ≡ put at (linesBelow day (entry nets) (entry nets) (entry dvps) book g) memory₀)
+Inv-loop day starts nets after dvps book map memory₀ at p₀ g₀ memory p g =
+    (g ≤ groupCount) × (p .at ≡ at + length (linesBelow day (entry nets) (entry after) (entry dvps) book g))
+    × (p .total ≡ sumWhere g (hasLine day (entry nets) (entry dvps) book) (margin day (entry after) (entry dvps) book))
+    × (memory ≡ put at (linesBelow day (entry nets) (entry after) (entry dvps) book g) memory₀)
 
 abbrev μ-loop : tie.MeasureT-loop
-μ-loop day starts nets dvps book map memory₀ at p₀ g₀ memory p g = groupCount - g
+μ-loop day starts nets after dvps book map memory₀ at p₀ g₀ memory p g = groupCount - g
 
 module _ (c : tie.At-loop Inv-loop μ-loop) where
   abbrev s : tie.Start Inv-loop μ-loop
@@ -40,6 +40,9 @@ module _ (c : tie.At-loop Inv-loop μ-loop) where
 
   abbrev n : ℕ → ℤ
   n = entry (now (s .args .nets))
+
+  abbrev u : ℕ → ℤ
+  u = entry (now (s .args .after))
 
   abbrev v : ℕ → ℤ
   v = entry (now (s .args .dvps))
@@ -56,15 +59,15 @@ module _ (c : tie.At-loop Inv-loop μ-loop) where
   long : length (c .loop .memory) ≡ length m
   long =
       ap length (c .loop .inv .3)
-      ∙ put-length (s .args .at) (linesBelow d n n v k (c .loop .g)) m
-      (omega (arith, below-all d n n v k (c .loop .g) (s .args .map) (c .loop .inv .0) (s .pre .1 .1 .1 .1 .0), s .pre .1 .1 .1 .1 .1 .1))
+      ∙ put-length (s .args .at) (linesBelow d n u v k (c .loop .g)) m
+      (omega (arith, below-all d n u v k (c .loop .g) (s .args .map) (c .loop .inv .0) (s .pre .1 .1 .1 .1 .0), s .pre .1 .1 .1 .1 .1 .1))
 
 loop-holds : tie.Need-loop-holds Inv-loop μ-loop
 loop-holds c =
     let a = c .before .before .args in
     let t = hasLine (now (a .day)) (entry (now (a .nets))) (entry (now (a .dvps))) (a .book) in
-    rw (blocks-none t (lineWords (now (a .day)) (entry (now (a .nets))) (entry (now (a .dvps))) (a .book)))
-    (omega arith, omega arith, sym (sumWhere-zero t (margin (now (a .day)) (entry (now (a .nets))) (entry (now (a .dvps))) (a .book))), sym (put-none (a .at) (now (a .memory))))
+    rw (blocks-none t (lineWords (now (a .day)) (entry (now (a .after))) (entry (now (a .dvps))) (a .book)))
+    (omega arith, omega arith, sym (sumWhere-zero t (margin (now (a .day)) (entry (now (a .after))) (entry (now (a .dvps))) (a .book))), sym (put-none (a .at) (now (a .memory))))
 
 write-group-requires : tie.Need-write-group-requires Inv-loop μ-loop
 write-group-requires c κs =
@@ -82,8 +85,8 @@ write-group-requires c κs =
               p .1 .1 .1 .1 .0,
               (
                 (
-                  omega (arith, l .loop .inv .1, few l, below-all (d l) (n l) (n l) (v l) (k l) (l .loop .g) (s l .args .map) (l .loop .inv .0) (p .1 .1 .1 .1 .0), p .1 .1 .1 .1 .1 .0),
-                  omega (arith, l .loop .inv .1, long l, below-room (d l) (n l) (n l) (v l) (k l) (l .loop .g) (s l .args .map) h (p .1 .1 .1 .1 .0), p .1 .1 .1 .1 .1 .1),
+                  omega (arith, l .loop .inv .1, few l, below-all (d l) (n l) (u l) (v l) (k l) (l .loop .g) (s l .args .map) (l .loop .inv .0) (p .1 .1 .1 .1 .0), p .1 .1 .1 .1 .1 .0),
+                  omega (arith, l .loop .inv .1, long l, below-room (d l) (n l) (u l) (v l) (k l) (l .loop .g) (s l .args .map) h (p .1 .1 .1 .1 .0), p .1 .1 .1 .1 .1 .1),
                 ),
                 l .loop .inv .2,
               ),
@@ -99,15 +102,15 @@ loop-again c =
     let w = c .before .before .write-group .ensures in
     let g = l .loop .g in
     let h : g < groupCount = omega (arith, c .before .before .before .before .loop-test .taken) in
-    let b = linesBelow (d l) (n l) (n l) (v l) (k l) g in
-    let o = oneLine (d l) (n l) (n l) (v l) (k l) g in
-    rw (below-more (d l) (n l) (n l) (v l) (k l) g) (
+    let b = linesBelow (d l) (n l) (u l) (v l) (k l) g in
+    let o = oneLine (d l) (n l) (u l) (v l) (k l) g in
+    rw (below-more (d l) (n l) (u l) (v l) (k l) g) (
       omega (arith, h),
       omega (arith, w .0, l .loop .inv .1, length-append b o),
       w .1 .0,
       w .1 .1 ∙ ap (put (l .loop .p .at) o) (l .loop .inv .3)
           ∙ put-put (s l .args .at) b o (m l) (l .loop .p .at) (l .loop .inv .1)
-          (omega (arith, l .loop .inv .1, below-room (d l) (n l) (n l) (v l) (k l) g (s l .args .map) h (s l .pre .1 .1 .1 .1 .0), s l .pre .1 .1 .1 .1 .1 .1)),
+          (omega (arith, l .loop .inv .1, below-room (d l) (n l) (u l) (v l) (k l) g (s l .args .map) h (s l .pre .1 .1 .1 .1 .0), s l .pre .1 .1 .1 .1 .1 .1)),
     )
 
 same-length : tie.Need-same-length Inv-loop μ-loop
@@ -118,9 +121,9 @@ unfolding total bookLines
 returns c =
     let l = c .before .before in
     let e : l .loop .g ≡ groupCount = omega arith in
-    let q = l .loop .inv .2 ∙ ap (λ (j : ℕ). sumWhere j (hasLine (d l) (n l) (v l) (k l)) (margin (d l) (n l) (v l) (k l))) e in (
-      back q (total-small (d l) (n l) (v l) (s l .pre .0) (s l .pre .1 .0) (n l) (k l) (s l .pre .1 .1 .0)),
-      l .loop .inv .3 ∙ ap (λ (j : ℕ). put (s l .args .at) (linesBelow (d l) (n l) (n l) (v l) (k l) j) (m l)) e,
+    let q = l .loop .inv .2 ∙ ap (λ (j : ℕ). sumWhere j (hasLine (d l) (n l) (v l) (k l)) (margin (d l) (u l) (v l) (k l))) e in (
+      back q (total-small (d l) (u l) (v l) (s l .pre .0) (s l .pre .1 .0) (n l) (k l) (s l .pre .1 .1 .0)),
+      l .loop .inv .3 ∙ ap (λ (j : ℕ). put (s l .args .at) (linesBelow (d l) (n l) (u l) (v l) (k l) j) (m l)) e,
     )
 
 pub write-book-spec : {M : Type 1} → statement M

@@ -1,0 +1,4 @@
+pub mod Deposited
+pub mod Shorts
+pub mod Before
+pub mod Covered
