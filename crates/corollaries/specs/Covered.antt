@@ -1,9 +1,9 @@
 -- What cover does to the nets (U5), for a reader: no net turns long and none grows, a class's net short falls by the contracts covered and no more, a series is used up before the next is touched, and without deposits nothing changes.
 use mathlib.Core.Path.{_≡_, refl, sym, ap, _∙_}
-use mathlib.Core.Bool.{Bool, true, false, not, _&&_, _||_, cond}
+use mathlib.Core.Bool.{Bool, true, false, not, _&&_, _||_}
 use mathlib.Core.Logic.{_⊎_, inl, inr}
 use mathlib.Core.List.{List, [], _∷_}
-use Prim.Native.Nat.{ℕ, zero, suc, _+_, _-_, _/_, _≤_, _<_, min}
+use Prim.Native.Nat.{ℕ, zero, suc, _+_, _-_, _/_, _^_, _≤_, _<_, min}
 use native.Mathlib.Decide.{decLt}
 use native.Mathlib.Nat.{zero-div}
 use native.Mathlib.Omega.{arith}
@@ -17,7 +17,6 @@ use Rattle.numbers.specs.Budget.{sumNWhere, sumNWhere-ext}
 use Rattle.numbers.specs.Order.{Order, byPlace, largerThen, place-order, larger-order}
 use Rattle.numbers.specs.Taking.{before, leftAt, before-more, left-sum}
 use Rattle.model.specs.declared.Verdict.{Verdict}
-use Rattle.model.specs.declared.Verdict.the-variants.{Passed, Failed}
 use Rattle.model.specs.Rows.{tried}
 use Rattle.model.specs.DayFile.{classCount, classPlace, seriesCount, seriesType, seriesClass, expiry, multiplier}
 use Rattle.model.specs.DayChecks.{dayCheck}
@@ -34,6 +33,7 @@ use Rattle.model.proofs.Accepted.{DayRows, DepositRows}
 use Rattle.model.proofs.Expiry.{expiry-order}
 use Rattle.model.proofs.Cover.{covered-future, covered-above, covered-none, is-reduced, never-more, covered-kept, covered-no-deposits, no-deposits-pass}
 use Rattle.model.proofs.DepositLaws.{named-or-none}
+use Rattle.model.proofs.DepositOrders.{few-deposits}
 
 -- the net short in the ordinary book of the series of class c that deposits cover
 abbrev pub classShort : List ℕ → (ℕ → ℤ) → ℕ → ℕ
@@ -60,6 +60,8 @@ pub record Covered : Type 0 where
   pub order : (d : List ℕ) (n : ℕ → ℤ) (c s t : ℕ) → DayRows d → c < classCount d → s < seriesCount d → t < seriesCount d
       → futureOf d c s ≡ true → futureOf d c t ≡ true
       → goesBefore d n t s ≡ (ltb (shortOf d n s) (shortOf d n t) || (eqb (shortOf d n t) (shortOf d n s) && ltb (expiry d s) (expiry d t)))
+  -- "a class that .. was named by an earlier deposit" is refused, so no more pass than there are class numbers, of six bits
+  pub fewDeposits : (d x : List ℕ) → DepositRows d x → depositCount x ≤ 2 ^ 6
   -- with no deposits: the rows are those up to 30, and the amounts are of the nets
   pub noneChecked : (d b : List ℕ) → verdict d b [] ≡ tried (dayCheck d ∷ batchCheck d b ∷ nettingCheck d b ∷ [])
   pub noneReported : (d b : List ℕ) → report d b [] ≡ reportWords d (net b) (net b) (dvp b)
@@ -237,6 +239,7 @@ cover-theorems =
       taken = λ d x n s r. class-taken d x r n s;
       usedUp = λ d x n c s u r. used-up d x r n c s u;
       order = by-size-and-expiry;
+      fewDeposits = few-deposits;
       noneChecked = none-checked;
       noneReported = λ d b. ap (λ (u : ℕ → ℤ). reportWords d (net b) u (dvp b)) (covered-no-deposits d (net b));
     }

@@ -3,7 +3,7 @@ use mathlib.Core.Path.{_≡_, refl, sym, ap, _∙_}
 use mathlib.Core.Bool.{Bool, true, false, not, cond, true≢false}
 use mathlib.Core.Logic.{_⊎_, inl, inr}
 use mathlib.Core.List.{List}
-use Prim.Native.Nat.{ℕ, _≤_, _<_}
+use Prim.Native.Nat.{ℕ, _<_}
 use native.Mathlib.Decide.{ℕ-discrete, decLt}
 use native.Mathlib.Omega.{arith}
 use borrow.Author.Tests.{eq-eqb, eqb-true, ne-eqb, not-false}
@@ -12,12 +12,11 @@ use Rattle.numbers.specs.declared.Found.{Found}
 use Rattle.numbers.specs.declared.Found.the-variants.{At, Nothing}
 use Rattle.numbers.specs.Scan.{firstBad, hit, first-at, first-clear}
 use Rattle.numbers.specs.Lists.{nothing-hit}
-use Rattle.numbers.specs.Budget.{sumN, sumNWhere, sumN-zero, sumN-ext, sumN-one}
-use Rattle.model.specs.Limits.{sharesLimit}
+use Rattle.numbers.specs.Budget.{sumNWhere, sumN-zero, sumN-ext, sumN-one}
 use Rattle.model.specs.DayFile.{classCount, classNumber, classWith, classPlace, placeOr}
 use Rattle.model.specs.Deposits.{depositCount, namedNumber, shares, sharesOf}
 use Rattle.model.proofs.Accepted.{DepositRows}
-use Rattle.model.proofs.DepositOrders.{known, not-again, shares-limit}
+use Rattle.model.proofs.DepositOrders.{known, not-again}
 
 -- the class with a number that is known has this number
 pub place-number : (d : List ℕ) (n : ℕ) → not (hit (classWith d n)) ≡ false → classNumber d (classPlace d n) ≡ n
@@ -71,12 +70,3 @@ module _ (d x : List ℕ) (r : DepositRows d x) where
       by Nothing p =
           inr (sumN-zero (depositCount x) (λ i. cond (eqb (classPlace d (namedNumber x i)) c) (shares x i) 0)
           (λ i h. ap (λ (t : Bool). cond t (shares x i) 0) (first-clear (λ i. eqb (classPlace d (namedNumber x i)) c) (depositCount x) p i h)))
-
-  pub shares-few : (c : ℕ) → sharesOf d x c ≤ sharesLimit
-  shares-few c = by (named-or-none c)
-    where
-      by : ((i : ℕ) × (i < depositCount x) × (classPlace d (namedNumber x i) ≡ c)) ⊎ (sharesOf d x c ≡ 0) → sharesOf d x c ≤ sharesLimit
-      by (inl q) =
-          let e = ap (sharesOf d x) (sym (q .2)) ∙ shares-named (q .0) (q .1) in
-          omega (arith, e, shares-limit d x (q .0) (r .at50 (q .0) (q .1)))
-      by (inr e) = omega arith

@@ -48,9 +48,6 @@ module _ (d x : List ℕ) (i : ℕ) (e : row50 d x i ≡ false) where
   unfolding row50
   few-shares = or-right (unknown d (namedNumber x i) || again (namedNumber x) i) (tooMany (shares x i)) e
 
-  pub shares-limit : shares x i ≤ sharesLimit
-  shares-limit = ltb-false sharesLimit (shares x i) few-shares
-
 row50-parts : (d x : List ℕ) (i : ℕ) → unknown d (namedNumber x i) ≡ false → again (namedNumber x) i ≡ false → tooMany (shares x i) ≡ false → row50 d x i ≡ false
 unfolding row50
 row50-parts d x i p q r = λ j. p j || q j || r j

@@ -1,12 +1,12 @@
 -- Strict total orders of indices as tests, one made finer by another: first by a number, the larger first, then by what orders those that agree in it.
 use mathlib.Core.Path.{_≡_, refl, sym, ap, _∙_}
-use mathlib.Core.Bool.{Bool, true, false, not, _&&_, _||_, true≢false}
+use mathlib.Core.Bool.{Bool, true, false, not, true≢false}
 use mathlib.Core.Logic.{_≢_, _⊎_, inl, inr}
 use Prim.Native.Nat.{ℕ, _<_}
 use native.Mathlib.Decide.{decLt}
 use native.Mathlib.Omega.{arith}
 use borrow.Author.Tests.{lt-ltb, le-ltb, eq-eqb, ne-eqb, ltb-true}
-use lib.Dec.{ltb, eqb}
+use lib.Dec.{ltb}
 unfoldable pub use Rattle.numbers.specs.Definitions.{byPlace, largerThen}
 
 -- b i j: i goes before j
