@@ -1,4 +1,5 @@
 pub mod Deposited
 pub mod Shorts
 pub mod Before
+pub mod Keys
 pub mod Covered

@@ -12,6 +12,7 @@ ghost use Rattle.classes.specs.Range.{Range};
 ghost use Rattle.classes.specs.Starts.{startTable};
 ghost use Rattle.classes.specs.Tables.{entry, Day, Given};
 ghost use Rattle.cover.specs.Covered.{coveredWith, coveredTo};
+ghost use Rattle.cover.specs.Keys.{keyTable};
 use classes::starts::STARTS;
 use deposits::deposit_count;
 use deposits::named_number;
@@ -57,8 +58,17 @@ fn less(x: u64, y: u64) -> u64
 }
 
 // The net of series s after cover by the shares of its class, whose series stand from a up to b.
-fn series_covered(day: &[u32], nets: &[i64], a: usize, b: usize, shares: u64, s: usize) -> i64
+fn series_covered(
+    day: &[u32],
+    nets: &[i64],
+    keys: &[u64],
+    a: usize,
+    b: usize,
+    shares: u64,
+    s: usize,
+) -> i64
     requires { ⌜ Given (now day) (now nets) ⌝ }
+    requires { ⌜ now keys ≡ keyTable (now day) (entry (now nets)) ⌝ }
     requires { ⌜ Range (now day) (seriesClass (now day) s) a b ⌝ }
     requires { ⌜ s < seriesCount (now day) ⌝ }
     ensures { λ r. ⌜ r ≡ coveredWith (now (day .entry)) (entry (now (nets .entry))) shares s ⌝ }
@@ -72,7 +82,7 @@ fn series_covered(day: &[u32], nets: &[i64], a: usize, b: usize, shares: u64, s:
         return net;
     }
     let contracts = contracts_covered(shares, words::wide(day_file::multiplier(day, s)));
-    let rest = less(contracts, order::cover_before(day, nets, a, b, s));
+    let rest = less(contracts, order::cover_before(day, nets, keys, a, b, s));
     less(short, rest) as i64
 }
 
@@ -81,6 +91,7 @@ fn cover_class(
     day: &[u32],
     deposits: &[u32],
     nets: &[i64],
+    keys: &[u64],
     c: usize,
     a: usize,
     b: usize,
@@ -88,6 +99,7 @@ fn cover_class(
 )
     requires { ⌜ Given (now day) (now nets) ⌝ }
     requires { ⌜ DepositRows (now day) (now deposits) ⌝ }
+    requires { ⌜ now keys ≡ keyTable (now day) (entry (now nets)) ⌝ }
     requires { ⌜ Range (now day) c a b ⌝ }
     requires { ⌜ now after ≡ coveredTo (now day) (now deposits) (entry (now nets)) a ⌝ }
     ensures { λ _. ⌜ now (after .exit) ≡ coveredTo (now (day .entry)) (now (deposits .entry)) (entry (now (nets .entry))) b ⌝ }
@@ -98,7 +110,7 @@ fn cover_class(
     }
     let mut s = a;
     while s < b {
-        after[s] = series_covered(day, nets, a, b, shares, s);
+        after[s] = series_covered(day, nets, keys, a, b, shares, s);
         s = s + 1;
     }
 }
@@ -131,12 +143,13 @@ pub fn cover(
     ensures { λ _. ⌜ now (after .exit) ≡ tabulate positionCount (covered (now (day .entry)) (now (deposits .entry)) (entry (now (nets .entry)))) ⌝ }
 {
     copy(nets, after);
+    let keys = order::order_keys(day, nets);
     let classes = day_file::class_count(day);
     let mut c: usize = 0;
     while c < classes {
         let a = starts[c];
         let b = starts[c + 1];
-        cover_class(day, deposits, nets, c, a, b, after);
+        cover_class(day, deposits, nets, &keys, c, a, b, after);
         c = c + 1;
     }
 }

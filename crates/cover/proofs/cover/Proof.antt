@@ -18,10 +18,10 @@ use Rattle.cover.proofs.cover.Statement.{statement}
 use Rattle.cover.proofs.cover.Tie as tie
 
 abbrev Inv-loop : tie.InvT-loop
-Inv-loop day starts deposits nets after₀ classes c₀ after c = (c ≤ classes) × (after ≡ coveredTo day deposits (entry nets) (getD starts c 0))
+Inv-loop day starts deposits nets after₀ keys classes c₀ after c = (c ≤ classes) × (after ≡ coveredTo day deposits (entry nets) (getD starts c 0))
 
 abbrev μ-loop : tie.MeasureT-loop
-μ-loop day starts deposits nets after₀ classes c₀ after c = classes - c
+μ-loop day starts deposits nets after₀ keys classes c₀ after c = classes - c
 
 module _ (y : tie.Start Inv-loop μ-loop) where
   abbrev d : List ℕ
@@ -40,32 +40,32 @@ module _ (y : tie.Start Inv-loop μ-loop) where
   start-is c h = ap (λ l. getD l c 0) (y .pre .1 .0) ∙ getD-tabulate starts (startOf d) c 0 h
 
 few : (i : tie.In-loop Inv-loop μ-loop) → i .before .loop .c < mostClasses
-few i = let l = i .before in omega (arith, l .before .class-count .ensures, l .before .before .before .before .before .before .before .pre .0 .day .classes)
+few i = let l = i .before in omega (arith, l .before .class-count .ensures, l .before .before .before .before .before .before .before .before .pre .0 .day .classes)
 
 loop-holds : tie.Need-loop-holds Inv-loop μ-loop
 loop-holds c =
-    let y = c .before .before .before .before .before .before in (
+    let y = c .before .before .before .before .before .before .before in (
       search needs,
-      c .before .before .copy .ensures ∙ tabulate-getD (y .args .nets .now) positionCount (pos 0) (y .pre .1 .1 .1 .0)
+      c .before .before .before .copy .ensures ∙ tabulate-getD (y .args .nets .now) positionCount (pos 0) (y .pre .1 .1 .1 .0)
           ∙ first-class (d y) (x y) (n y) (y .pre .0 .day .rows) ∙ ap (coveredTo (d y) (x y) (n y)) (sym (start-is y 0 (omega arith))),
     )
 
 cover-class-requires : tie.Need-cover-class-requires Inv-loop μ-loop
 cover-class-requires c κs =
-    let l = c .before .before .before .before in
-    let y = l .before .before .before .before .before .before .before in
-    (y .pre .0, (y .pre .1 .1 .0, (table-range (d y) (y .args .starts .now) (l .loop .c) (y .pre .0 .day) (y .pre .1 .0) (search needs), l .loop .inv .1)))
+    let l = c .before .before .before .before .before in
+    let y = l .before .before .before .before .before .before .before .before in
+    (y .pre .0, (y .pre .1 .1 .0, (l .before .before .order-keys .ensures, (table-range (d y) (y .args .starts .now) (l .loop .c) (y .pre .0 .day) (y .pre .1 .0) (search needs), l .loop .inv .1))))
 
 same-length : tie.Need-same-length Inv-loop μ-loop
 same-length c =
     let l = c .before in
-    let y = l .before .before .before .before .before .before .before in
+    let y = l .before .before .before .before .before .before .before .before in
     ap length (l .loop .inv .1) ∙ covered-length (d y) (x y) (n y) (start y (l .loop .c)) ∙ sym (y .pre .1 .1 .1 .1)
 
 returns : tie.Need-returns Inv-loop μ-loop
 returns c =
     let l = c .before in
-    let y = l .before .before .before .before .before .before .before in
+    let y = l .before .before .before .before .before .before .before .before in
     let w = y .pre .0 .day in
     let e : l .loop .c ≡ classCount (d y) = omega (arith, l .before .class-count .ensures) in
     l .loop .inv .1 ∙ ap (λ (c : ℕ). coveredTo (d y) (x y) (n y) (start y c)) e
@@ -80,12 +80,14 @@ cover-spec =
     μ-loop
     (λ c κs. let y = c .before .before .before in y .pre .1 .1 .1 .1 ∙ sym (y .pre .1 .1 .1 .0))
     (λ c κs. search needs)
+    (λ c κs. search needs)
     loop-holds
     (λ c. record { fits = omega (arith, few c) })
     (λ c. omega (arith, few c))
     (λ c. record { fits = omega (arith, few (c .before)) })
     (λ c. record { fits = omega (arith, few (c .before)) })
     (λ c. omega (arith, few (c .before)))
+    (λ c. search needs)
     cover-class-requires
     (λ c. search needs)
     (λ c. search needs)

@@ -20,10 +20,10 @@ use Rattle.cover.proofs.cover_class.Statement.{statement}
 use Rattle.cover.proofs.cover_class.Tie as tie
 
 abbrev Inv-loop : tie.InvT-loop
-Inv-loop day deposits nets c a b after₀ shares s₀ after s = (a ≤ s) × (s ≤ b) × (after ≡ coveredTo day deposits (entry nets) s)
+Inv-loop day deposits nets keys c a b after₀ shares s₀ after s = (a ≤ s) × (s ≤ b) × (after ≡ coveredTo day deposits (entry nets) s)
 
 abbrev μ-loop : tie.MeasureT-loop
-μ-loop day deposits nets c a b after₀ shares s₀ after s = b - s
+μ-loop day deposits nets keys c a b after₀ shares s₀ after s = b - s
 
 module _ (y : tie.Start Inv-loop μ-loop) where
   abbrev d : List ℕ
@@ -36,7 +36,7 @@ module _ (y : tie.Start Inv-loop μ-loop) where
   n = entry (y .args .nets .now)
 
   abbrev r : Range d (y .args .c) (y .args .a) (y .args .b)
-  r = y .pre .1 .1 .0
+  r = y .pre .1 .1 .1 .0
 
 -- series s of the class
 module _ (i : tie.In-loop Inv-loop μ-loop) where
@@ -44,7 +44,7 @@ module _ (i : tie.In-loop Inv-loop μ-loop) where
   l = i .before
 
   abbrev y : tie.Start Inv-loop μ-loop
-  y = i .before .before .before .before .before .before
+  y = i .before .before .before .before .before .before .before
 
   inside : l .loop .s < seriesCount (d y)
   inside = omega (arith, r y .end)
@@ -63,8 +63,8 @@ module _ (i : tie.In-loop Inv-loop μ-loop) where
 
 returns : tie.Need-returns Inv-loop μ-loop
 returns c =
-    let y = c .before .before .before .before in
-    y .pre .1 .1 .1 ∙ class-kept (d y) (x y) (n y) (y .args .c) (y .args .a) (y .args .b) (r y) (sym (c .before .deposited .ensures) ∙ c .if1 .taken)
+    let y = c .before .before .before .before .before in
+    y .pre .1 .1 .1 .1 ∙ class-kept (d y) (x y) (n y) (y .args .c) (y .args .a) (y .args .b) (r y) (sym (c .before .deposited .ensures) ∙ c .if1 .taken)
 
 -- what is stored
 stored : (c : tie.After-series-covered Inv-loop μ-loop)
@@ -84,14 +84,14 @@ loop-again c =
 
 same-length : tie.Need-same-length Inv-loop μ-loop
 same-length c =
-    let y = c .before .before .before .before .before .before in
+    let y = c .before .before .before .before .before .before .before in
     ap length (c .before .loop .inv .2) ∙ covered-length (d y) (x y) (n y) (c .before .loop .s)
-    ∙ sym (ap length (y .pre .1 .1 .1) ∙ covered-length (d y) (x y) (n y) (y .args .a))
+    ∙ sym (ap length (y .pre .1 .1 .1 .1) ∙ covered-length (d y) (x y) (n y) (y .args .a))
 
 returns-2 : tie.Need-returns-2 Inv-loop μ-loop
 returns-2 c =
     let l = c .before in
-    let y = l .before .before .before .before .before in
+    let y = l .before .before .before .before .before .before in
     let e : l .loop .s ≡ y .args .b = omega arith in
     l .loop .inv .2 ∙ ap (coveredTo (d y) (x y) (n y)) e
 
@@ -101,10 +101,10 @@ cover-class-spec =
     (tie.spec
     Inv-loop
     μ-loop
-    (λ c κs. let y = c .before .before in (y .pre .0 .day, (y .pre .1 .0, r y .class)))
+    (λ c κs. let y = c .before .before .before in (y .pre .0 .day, (y .pre .1 .0, r y .class)))
     returns
-    (λ c. let y = c .before .before .before .before in (search needs, search needs, y .pre .1 .1 .1))
-    (λ c κs. (y c .pre .0, (rw (own c) (r (y c)), inside c)))
+    (λ c. let y = c .before .before .before .before .before in (search needs, search needs, y .pre .1 .1 .1 .1))
+    (λ c κs. (y c .pre .0, (y c .pre .1 .1 .0, (rw (own c) (r (y c)), inside c))))
     (λ c. search needs)
     (λ c. omega (arith, long (c .before), inside (c .before), y (c .before) .pre .0 .day .series))
     (λ c. search needs)

@@ -21,13 +21,13 @@ use Rattle.cover.specs.Shorts.{none-reduced, some-reduced, short-limit}
 use Rattle.cover.proofs.series_covered.Statement.{statement}
 use Rattle.cover.proofs.series_covered.Tie as tie
 
-net-is : (p : tie.After-position-amount) → toZ w64 (ofZ w64 (p .position-amount .result)) ≡ openNet (entry (p .before .before .args .nets .now)) 0 (p .before .before .args .s)
+net-is : (p : tie.After-position-amount) → toZ w64 (ofZ w64 (p .position-amount .result)) ≡ openNet (entry (p .before .before .before .args .nets .now)) 0 (p .before .before .before .args .s)
 net-is p = told (p .position-amount .ok) (p .position-amount .ensures)
 
 -- a series that is covered, and its net short
 module _ (c : tie.After-short-size) where
   abbrev y : tie.Start
-  y = c .before .before .before .before .before
+  y = c .before .before .before .before .before .before
 
   abbrev d : List ℕ
   d = y .args .day .now
@@ -56,7 +56,13 @@ returns-2 c =
 contracts-covered-requires : tie.Need-contracts-covered-requires
 contracts-covered-requires c κs =
     let h = c .before .before .before in
-    omega (arith, c .wide .ensures, c .before .multiplier .ensures, multiplier-least (d h) (y h .pre .0 .day .rows) (s h) (y h .pre .1 .1))
+    omega (arith, c .wide .ensures, c .before .multiplier .ensures, multiplier-least (d h) (y h .pre .0 .day .rows) (s h) (y h .pre .1 .1 .1))
+
+cover-before-requires : tie.Need-cover-before-requires
+cover-before-requires c κs =
+    let h = c .before .before .before .before in
+    let p = y h .pre in
+    (p .0, (p .1 .0, (p .1 .1 .0, (p .1 .1 .1, yes h))))
 
 module _ (c : tie.After-less2) where
   abbrev h : tie.After-short-size
@@ -71,7 +77,7 @@ module _ (c : tie.After-less2) where
       c .less2 .ensures ∙ (λ i. size-is h i - rest i)
 
   small : c .less2 .result ≤ contractsLimit
-  small = omega (arith, left-is, short-limit (d h) (y h .args .nets .now) (y h .pre .0) (s h) (y h .pre .1 .1))
+  small = omega (arith, left-is, short-limit (d h) (y h .args .nets .now) (y h .pre .0) (s h) (y h .pre .1 .1 .1))
 
 returns-3 : tie.Need-returns-3
 returns-3 c =
@@ -90,7 +96,7 @@ series-covered-spec =
     (λ c κs. search needs)
     (λ c κs. search needs)
     contracts-covered-requires
-    (λ c κs. search needs)
+    cover-before-requires
     (λ c κs. search needs)
     (λ c κs. search needs)
     (λ c. sfits-abs (pos (c .less2 .result)) (omega (arith, small c)))

@@ -37,7 +37,7 @@ module _ (d : List ℕ) (net : ℕ → ℤ) where
   abbrev pub shortOf : ℕ → ℕ
   shortOf s = shortSize (openNet net 0 s)
 
-  -- t is covered before s: "from the largest net short on, and among equals from the further expiry"; the lower place last, which decides nothing among futures (CoverOrder)
+  -- t is covered before s: "from the largest net short on, and among equals from the further expiry"; the lower place last, which decides nothing among futures (`corollaries`, Covered.order)
   unfoldable pub goesBefore : ℕ → ℕ → Bool
   goesBefore t s = largerThen shortOf (largerThen (expiry d) byPlace) t s
 
