@@ -101,8 +101,14 @@ cover-futures-alone = refl
 
 unfoldable pub lodged : List Figure
 lodged =
-    -- a short covered whole: the group keeps its line
-    record { computed = answerWith fourFutures oneHeld (0 ∷ 300 ∷ []); published = map pos (0 ∷ 32 ∷ []) }
+    -- the accounts above are accepted; a short covered whole keeps its line
+    record {
+      computed =
+          answerWith fourFutures fourHeld [] ++ answerWith fourFutures fourHeld (0 ∷ 750 ∷ []) ++ answerWith fourFutures fourHeld (0 ∷ 1000 ∷ [])
+          ++ answerWith fourFutures fourHeld (0 ∷ 1300 ∷ [])
+          ++ answerWith fourFutures oneHeld (0 ∷ 300 ∷ []);
+      published = map pos (0 ∷ 32 ∷ 0 ∷ 32 ∷ 0 ∷ 32 ∷ 0 ∷ 32 ∷ 0 ∷ 32 ∷ []);
+    }
     -- 50: one word alone; three, though the first deposit is bad too
     ∷ record { computed = answerWith fourFutures noneHeld (0 ∷ []) ++ answerWith fourFutures noneHeld (0 ∷ 1 ∷ 0 ∷ []); published = map pos (50 ∷ 0 ∷ 50 ∷ 0 ∷ []) }
     -- 50: a class named twice; an unknown one; class 0 with a stray high bit
