@@ -1,6 +1,6 @@
 -- What the contract of the call over words rules out, each by an account on which the wrong program differs.
 use mathlib.Core.Path.{_≡_, refl, sym, ap, subst, _∙_}
-use mathlib.Core.List.{List, [], _++_}
+use mathlib.Core.List.{List, [], _∷_, _++_}
 use Prim.Native.Nat.{ℕ, _+_, _*_, _^_, _≤_, _<_}
 use native.Mathlib.Omega.{arith}
 use lib.Dec.{lit≤}
@@ -98,6 +98,15 @@ some-needed : 0 < needed large (largeHeld 1001)
 unfolding everything
 some-needed = lit≤ tt
 
+-- one word as deposits: row 50
+fifty : statusOf (answer day before (0 ∷ []) 80) ≡ 50
+unfolding everything
+fifty = refl
+
+before-passes : statusOf (answer day before [] 80) ≡ 0
+unfolding everything
+before-passes = refl
+
 -- ---- no program that meets the contract does one of these
 
 module _ (p : Program) (meets : Meets p) where
@@ -152,5 +161,13 @@ module _ (p : Program) (meets : Meets p) where
   not-short-first h =
       let z : _≡_ {A = ℕ} 30 40 =
       sym thirty ∙ ap statusOf (sym (meets .answered large (largeHeld 1001) [] 0)) ∙ h large (largeHeld 1001) [] 0 some-needed
+      in
+      absurd (omega arith)
+
+  -- it takes no notice of the deposits
+  pub not-blind-to-deposits : ((d b x : List ℕ) (room : ℕ) → p .answers d b x room ≡ p .answers d b [] room) → ⊥
+  not-blind-to-deposits h =
+      let z : _≡_ {A = ℕ} 50 0 =
+      sym fifty ∙ ap statusOf (sym (meets .answered day before (0 ∷ []) 80) ∙ h day before (0 ∷ []) 80 ∙ meets .answered day before [] 80) ∙ before-passes
       in
       absurd (omega arith)

@@ -25,7 +25,7 @@ use model::Verdict;
 use numbers::Found;
 
 // The most shares of a deposit.
-pub const SHARES_LIMIT: u32 = 10000000;
+const SHARES_LIMIT: u32 = 10000000;
 
 // The words are not whole deposits.
 fn odd_words(deposits: &[u32]) -> bool

@@ -139,7 +139,7 @@ module _ (d b x : List ℕ) where
   unfolding verdict
   deposit-rows e = deposit-checked d x (tried-passed _ e .1 .1 .1 .0)
 
-  pub all-passed : dayCheck d ≡ Passed → batchCheck d b ≡ Passed → nettingCheck d b ≡ Passed → depositCheck d x ≡ Passed → Accepted d b x
+  all-passed : dayCheck d ≡ Passed → batchCheck d b ≡ Passed → nettingCheck d b ≡ Passed → depositCheck d x ≡ Passed → Accepted d b x
   unfolding verdict
   all-passed p q r z = tried-pass _ (p then q then r then z then tt)
 

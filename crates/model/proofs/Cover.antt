@@ -77,7 +77,7 @@ module _ (d x : List ℕ) (net : ℕ → ℤ) where
 
   -- ---- no deposit of a class, and none at all
 
-  pub series-kept : (s : ℕ) → sharesOf d x (seriesClass d s) ≡ 0 → Steps.seriesCovered d x net s ≡ Steps.openNet net 0 s
+  series-kept : (s : ℕ) → sharesOf d x (seriesClass d s) ≡ 0 → Steps.seriesCovered d x net s ≡ Steps.openNet net 0 s
   unfolding Steps.seriesCovered Steps.contractsCovered
   series-kept s e =
       ap (λ (k : ℕ). Steps.reduced (Steps.openNet net 0 s) (k / multiplier d s - Steps.coverBefore d net s)) e

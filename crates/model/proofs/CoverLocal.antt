@@ -102,7 +102,7 @@ unfolding sharesOf
 shares-sum d x c =
     sym (sum-pos (depositCount x) (λ i. eqb (classPlace d (namedNumber x i)) c) (shares x)) ∙ sumTo-of (sharesIn d c) (depositCount x) (depositAt x)
 
-pub shares-order : (d x₁ x₂ : List ℕ) → Perm (deposits x₁) (deposits x₂) → (c : ℕ) → sharesOf d x₁ c ≡ sharesOf d x₂ c
+shares-order : (d x₁ x₂ : List ℕ) → Perm (deposits x₁) (deposits x₂) → (c : ℕ) → sharesOf d x₁ c ≡ sharesOf d x₂ c
 shares-order d x₁ x₂ p c =
     ap natAbs (shares-sum d x₁ c ∙ sum-perm (sharesIn d c) (deposits x₁) (deposits x₂) p ∙ sym (shares-sum d x₂ c))
 
