@@ -1,6 +1,6 @@
 // Step 6: a class's ten amounts after its offset, ten amounts added to ten, and the largest of ten.
 ghost use mathlib.Core.Path.{_≡_};
-ghost use Prim.Native.Nat.{ℕ, _≤_, _<_};
+ghost use Prim.Native.Nat.{ℕ, _*_, _/_, _≤_, _<_};
 ghost use lib.IntN.{pos, natAbs, _+ℤ_};
 ghost use lib.ListN.{getD};
 ghost use Rattle.numbers.specs.Extremes.{largest as largestOf};
@@ -10,18 +10,32 @@ ghost use Rattle.model.specs.Limits.{worthLimit, pointCount, wholeOffset};
 use accumulator::Points;
 
 // An offset of the whole.
-const WHOLE: i64 = day_file::WHOLE_OFFSET as i64;
+const WHOLE: u64 = day_file::WHOLE_OFFSET as u64;
 
-// A credit times the offset, a part of the whole, rounded toward zero; a debit whole. The product alone could wrap, so the quotient and the remainder by the whole go apart.
+// A product with an offset in units, rounded down.
+fn in_units(product: u64) -> u64
+    ensures { λ r. ⌜ r ≡ product / wholeOffset ⌝ }
+{
+    product / WHOLE
+}
+
+// What an offset leaves of a size. The product alone could wrap, so the quotient and the remainder by the whole go apart.
+fn left(size: u64, share: u64) -> u64
+    requires { ⌜ (size ≤ worthLimit) × (share ≤ wholeOffset) ⌝ }
+    ensures { λ r. ⌜ r ≡ size * share / wholeOffset ⌝ }
+{
+    size / WHOLE * share + in_units(size % WHOLE * share)
+}
+
+// A credit times the offset, a part of the whole: its size is rounded down, so it is rounded toward zero. A debit whole.
 fn after_offset(share: u32, amount: i64) -> i64
     requires { ⌜ (share ≤ wholeOffset) × (natAbs amount ≤ worthLimit) ⌝ }
     ensures { λ r. ⌜ r ≡ afterOffset share amount ⌝ }
 {
-    if amount >= 0 {
-        return amount;
+    if amount < 0 {
+        return 0 - left(words::size(amount), words::wide(share)) as i64;
     }
-    let p = share as i64;
-    (amount / WHOLE) * p + (amount % WHOLE) * p / WHOLE
+    amount
 }
 
 // Ten amounts of a class after its offset.

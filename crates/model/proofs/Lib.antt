@@ -11,6 +11,7 @@ pub mod Length
 pub mod NoLine
 pub mod Expiry
 pub mod Prices
+pub mod Offsets
 pub mod Bounds
 pub mod Fit
 pub mod ByteWords

@@ -1,96 +1,66 @@
 use borrow.Author.Needs.{needs}
+use native.Mathlib.Nat.{le-refl, mul-le-mul}
 use native.Mathlib.Omega.{arith}
-use mathlib.Core.Path.{_≡_, _∙_}
-use mathlib.Core.Bool.{true, false}
-use Prim.Native.Nat.{ℕ, _*_, _/_, _≤_}
-use lib.Dec.{lit<}
-use lib.IntN.{ℤ, pos, _+ℤ_, _*ℤ_, natAbs}
-use lib.Signed.{leZ, quotZ, remZ}
-use mir.Syntax.{w64}
-use mir.Val.{SFits, toZ, ofZ}
+use mathlib.Core.Path.{_≡_, sym, ap, _∙_}
+use Prim.Native.Nat.{ℕ, _*_, _/_, _^_, _<_}
+use lib.IntN.{ℤ, pos, negℤ, natAbs}
 use mir.Facts.{toZ-ofZ}
-use Rattle.numbers.specs.Abs.{sfits-abs, wide, natAbs-+, natAbs-*-le}
-use Rattle.numbers.specs.Quot.{natAbs-quot, natAbs-rem}
-use Rattle.model.specs.Limits.{worthLimit, wholeOffset}
-use Rattle.additional.specs.Offset.{debit-whole, credit-split}
+use Rattle.numbers.specs.Abs.{sfits-abs}
+use Rattle.words.specs.Signed.{less-fits, less-back}
+use Rattle.model.specs.Limits.{wholeOffset}
+use Rattle.model.proofs.Offsets.{debit-after, credit-after}
 use Rattle.additional.proofs.after_offset.Statement.{statement}
 use Rattle.additional.proofs.after_offset.Tie as tie
 
+size-requires : tie.Need-size-requires
+size-requires c κs = rw (toZ-ofZ (c .before .fits .amount)) (omega (arith, c .before .pre .1))
+
+-- what the two calls are given
+module _ (c : tie.After-wide) where
+  abbrev z : ℤ
+  z = c .before .before .before .args .amount
+
+  abbrev o : ℕ
+  o = c .before .before .before .args .share
+
+  size-is : c .before .size .result ≡ natAbs z
+  size-is = c .before .size .ensures .0 ∙ ap natAbs (toZ-ofZ (c .before .before .before .fits .amount))
+
+left-requires : tie.Need-left-requires
+left-requires c κs =
+    let a = c .before .before .before in
+    (omega (arith, size-is c, a .pre .1), omega (arith, c .wide .ensures, a .pre .0))
+
+-- what is left of the credit, which is no more than the credit
+module _ (c : tie.After-left) where
+  left-is : c .left .result ≡ natAbs (z (c .before)) * o (c .before) / wholeOffset
+  left-is = c .left .ensures ∙ (λ i. size-is (c .before) i * c .before .wide .ensures i / wholeOffset)
+
+  left-small : c .left .result < 2 ^ 63
+  left-small =
+      let a = c .before .before .before .before in
+      omega (arith, left-is, a .pre .1, mul-le-mul (le-refl (natAbs (z (c .before)))) (a .pre .0))
+
 returns : tie.Need-returns
 returns c =
-    let z = c .before .args .amount in
-    let h : leZ (pos 0) (toZ w64 (ofZ w64 z)) ≡ true = c .if1 .taken in
-    let e = toZ-ofZ (c .before .fits .amount) in
-    e ∙ debit-whole (c .before .args .share) z (rw e at h)
+    let a = c .before .before .before .before in
+    let h = rw (toZ-ofZ (a .fits .amount)) at (c .before .before .before .if1 .taken) in
+    less-back (c .left .result) (left-small c) ∙ ap (λ (n : ℕ). negℤ (pos n)) (left-is c) ∙ sym (credit-after (o (c .before)) (z (c .before)) h)
 
-module _ (c : tie.Else1) where
-  abbrev z : ℤ
-  z = c .before .args .amount
-
-  abbrev p : ℕ
-  p = c .before .args .share
-
-  abbrev q : ℤ
-  q = quotZ z (pos wholeOffset)
-
-  abbrev m : ℤ
-  m = remZ z (pos wholeOffset)
-
-  z-fits : SFits w64 z
-  z-fits = c .before .fits .amount
-
-  p-is : toZ w64 p ≡ pos p
-  p-is = wide p (omega (arith, c .before .pre .0))
-
-  -- what each operation gives fits
-  q-small : natAbs q ≤ worthLimit / wholeOffset
-  q-small = omega (arith, natAbs-quot z wholeOffset, c .before .pre .1)
-
-  q-fits : SFits w64 q
-  q-fits = sfits-abs q (omega (arith, q-small))
-
-  m-small : natAbs m ≤ wholeOffset
-  m-small = omega (arith, natAbs-rem z wholeOffset)
-
-  m-fits : SFits w64 m
-  m-fits = sfits-abs m (omega (arith, m-small))
-
-  qp-small : natAbs (q *ℤ pos p) ≤ worthLimit / wholeOffset * wholeOffset
-  qp-small = natAbs-*-le q (pos p) (worthLimit / wholeOffset) wholeOffset q-small (c .before .pre .0)
-
-  qp-fits : SFits w64 (q *ℤ pos p)
-  qp-fits = sfits-abs _ (omega (arith, qp-small))
-
-  mp-small : natAbs (m *ℤ pos p) ≤ wholeOffset * wholeOffset
-  mp-small = natAbs-*-le m (pos p) wholeOffset wholeOffset m-small (c .before .pre .0)
-
-  mp-fits : SFits w64 (m *ℤ pos p)
-  mp-fits = sfits-abs _ (omega (arith, mp-small))
-
-  d-small : natAbs (quotZ (m *ℤ pos p) (pos wholeOffset)) ≤ wholeOffset
-  d-small = omega (arith, natAbs-quot (m *ℤ pos p) wholeOffset, mp-small)
-
-  d-fits : SFits w64 (quotZ (m *ℤ pos p) (pos wholeOffset))
-  d-fits = sfits-abs _ (omega (arith, d-small))
-
-  sum-fits : SFits w64 (q *ℤ pos p +ℤ quotZ (m *ℤ pos p) (pos wholeOffset))
-  sum-fits = sfits-abs _ (omega (arith, natAbs-+ (q *ℤ pos p) (quotZ (m *ℤ pos p) (pos wholeOffset)), qp-small, d-small))
-
-  below : leZ (pos 0) z ≡ false
-  below =
-      let h : leZ (pos 0) (toZ w64 (ofZ w64 z)) ≡ false = c .if1 .left in
-      rw (toZ-ofZ z-fits) at h
+returns-2 : tie.Need-returns-2
+returns-2 c =
+    let a = c .before in
+    let e = toZ-ofZ (a .fits .amount) in
+    e ∙ sym (debit-after (a .args .share) (a .args .amount) (rw e at (c .if1 .left)))
 
 pub after-offset-spec : {M : Type 1} → statement M
 after-offset-spec =
     tie.close
     (tie.spec
+    size-requires
+    (λ c κs. search needs)
+    left-requires
+    (λ c. sfits-abs _ (left-small c))
+    (λ c. less-fits (c .left .result) (left-small c))
     returns
-    (λ c. search needs)
-    (λ c. (lit< tt, simp (toZ-ofZ, z-fits c) (q-fits c)))
-    (λ c. simp (toZ-ofZ, z-fits c, p-is c, q-fits c) (qp-fits c))
-    (λ c. (lit< tt, simp (toZ-ofZ, z-fits c) (q-fits c)))
-    (λ c. simp (toZ-ofZ, z-fits c, p-is c, m-fits c) (mp-fits c))
-    (λ c. (lit< tt, simp (toZ-ofZ, z-fits c, p-is c, m-fits c, mp-fits c) (d-fits c)))
-    (λ c. simp (toZ-ofZ, z-fits c, p-is c, q-fits c, m-fits c, qp-fits c, mp-fits c, d-fits c) (sum-fits c))
-    (λ c. simp (toZ-ofZ, z-fits c, p-is c, q-fits c, m-fits c, qp-fits c, mp-fits c, d-fits c, sum-fits c) (credit-split (p c) (z c) (below c))))
+    returns-2)

@@ -8,7 +8,7 @@ use mir.Syntax.{w64}
 use mir.Val.{toZ}
 use Rattle.numbers.specs.Abs.{told}
 use Rattle.numbers.specs.Extremes.{largest, maxZ}
-use Rattle.additional.specs.Offset.{largest-none, largest-more}
+use Rattle.additional.specs.Largest.{largest-none, largest-more}
 use Rattle.additional.proofs.largest.Statement.{statement}
 use Rattle.additional.proofs.largest.Tie as tie
 use Rattle.model.specs.Limits.{pointCount}
