@@ -1,6 +1,6 @@
 //! Random accounts, and accounts damaged so that each row of the table refuses some of them.
 use crate::fields::{self, Class, Record, Series, EQUITY};
-use crate::layout::{class_at, counts, series_at, CLASS_WORDS, SERIES_WORDS};
+use crate::layout::{class_at, counts, series_at, CLASS_WORDS, OFFSET, SERIES_WORDS, WHOLE_OFFSET};
 use crate::reckoner::reckon;
 use crate::rng::Rng;
 
@@ -81,8 +81,8 @@ pub fn day_file(rng: &mut Rng, classes: usize, series: usize) -> Vec<u32> {
         numbers.remove(i);
     }
     let groups = rng.within(1, 29);
-    let offsets: Vec<u32> =
-        (0..29).map(|_| if rng.once_in(4) { 100 * rng.below(2) as u32 } else { rng.below(101) as u32 }).collect();
+    let whole = u64::from(WHOLE_OFFSET);
+    let offsets: Vec<u64> = (0..29).map(|_| if rng.once_in(4) { whole * rng.below(2) } else { rng.below(whole + 1) }).collect();
     let mut class_words = Vec::new();
     let mut underlyings = Vec::new();
     for &n in &numbers {
@@ -94,7 +94,7 @@ pub fn day_file(rng: &mut Rng, classes: usize, series: usize) -> Vec<u32> {
         for _ in 0..7 {
             class_words.push(word(3, price(rng)));
         }
-        class_words.push(word(4, offsets[group as usize]));
+        class_words.push(word(4, offsets[group as usize] as u32));
         for _ in 0..10 {
             class_words.push(word(3, near(rng, underlying)));
         }
@@ -133,6 +133,16 @@ pub fn without_adjustments(day: &[u32]) -> Vec<u32> {
     let (c, s) = counts(day);
     if day.len() == series_at(c, s) {
         (0..s).for_each(|s| out[series_at(c, s) + 4] = word(3, 0));
+    }
+    out
+}
+
+/// The day file with every offset rounded down to a whole percent, where its length follows from its header.
+pub fn without_decimals(day: &[u32]) -> Vec<u32> {
+    let mut out = day.to_vec();
+    let (c, s) = counts(day);
+    if day.len() == series_at(c, s) {
+        (0..c).map(|c| class_at(c) + OFFSET).for_each(|at| out[at] -= (out[at] & 0x1fff_ffff) % 100);
     }
     out
 }
@@ -218,7 +228,7 @@ pub fn accepted(rng: &mut Rng, size: Size) -> Account {
 
 /// The longest report: every group has a line in both books.
 pub fn all_lines() -> Account {
-    let class = |group| Class { group, number: 2 * group, equity_rate: 100 + group, offset: 3 * group, ..Class::default() };
+    let class = |group| Class { group, number: 2 * group, equity_rate: 100 + group, offset: 301 * group, ..Class::default() };
     let series = |group: u32| Series {
         class_number: 2 * group,
         series_type: EQUITY,
@@ -241,7 +251,7 @@ pub fn extreme(rng: &mut Rng) -> Account {
     const PRICE: u32 = 500_000_000;
     let classes = rng.pick(&[1, 2, 16, 64]);
     let groups = rng.pick(&[1, 2, 29]);
-    let offset = rng.pick(&[0, 1, 99, 100]);
+    let offset = rng.pick(&[0, 1, 8_275, WHOLE_OFFSET - 1, WHOLE_OFFSET]);
     let only = rng.below(12) as u32;
     let down = rng.once_in(3);
     let high = |rng: &mut Rng| PRICE * u32::from(!rng.once_in(4));
@@ -322,7 +332,7 @@ pub fn damage(rng: &mut Rng, a: &mut Account) {
     let class = |rng: &mut Rng| class_at(rng.below(c.max(1) as u64) as usize);
     let series = |rng: &mut Rng| series_at(c, rng.below(s.max(1) as u64) as usize);
     let record = |rng: &mut Rng| 1 + 6 * rng.below(p.max(1) as u64) as usize;
-    match rng.below(31) {
+    match rng.below(32) {
         // any word, any bit
         0 => flip(rng, &mut a.day),
         1 => flip(rng, &mut a.batch),
@@ -335,7 +345,7 @@ pub fn damage(rng: &mut Rng, a: &mut Account) {
         7 => a.batch.push(rng.next() as u32),
         // classes
         8 if c > 0 => a.day[class(rng)] |= rng.pick(&[1 << 11, 1 << 28, 29, 31]),
-        9 if c > 0 => a.day[class(rng) + 9] = word(4, rng.pick(&[100, 101, 0, 536_870_911])),
+        9 if c > 0 => a.day[class(rng) + OFFSET] = word(4, rng.pick(&[WHOLE_OFFSET, WHOLE_OFFSET + 1, 0, 536_870_911])),
         10 if c > 1 => {
             let at = class_at(rng.within(1, c as u64 - 1) as usize);
             a.day[at] = a.day[at] & !(63 << 5) | a.day[at - CLASS_WORDS] & 63 << 5;
@@ -366,6 +376,8 @@ pub fn damage(rng: &mut Rng, a: &mut Account) {
             let (at, kind) = (1 + rng.below(a.day.len() as u64 - 1) as usize, rng.below(8) as u32);
             a.day[at] = a.day[at] & 0x1fff_ffff | kind << 29;
         }
+        // a hundredth of a percent, which alone makes a group's offsets differ
+        31 if c > 0 => a.day[class(rng) + OFFSET] ^= 1,
         // empty files
         28 if rng.once_in(6) => a.day.clear(),
         29 if rng.once_in(6) => a.batch.clear(),

@@ -2,6 +2,7 @@
 use crate::accounts::{accepted, account, all_lines, damage, extreme, Account, LARGEST, SMALL, TYPICAL};
 use crate::fields::{self, Class, Record, Series, EQUITY};
 use crate::files::Made;
+use crate::layout::WHOLE_OFFSET;
 use crate::reckoner::{reckon, text, to_bytes, words, Refusal};
 use crate::rng::Rng;
 use crate::samples::{calls, samples, with_words, MINUS_ZERO, TOO_MANY, WRONG_KIND};
@@ -40,7 +41,22 @@ pub fn with_offset(offset: u32) -> Account {
         ..Series::default()
     };
     let records = [Record { series: 0, long: 7, ..Record::default() }, Record { series: 1, short: 9, ..Record::default() }];
-    fields::account(&[class(2, 3, 100), class(9, 28, offset)], &[series(2), series(9)], &records)
+    fields::account(&[class(2, 3, WHOLE_OFFSET), class(9, 28, offset)], &[series(2), series(9)], &records)
+}
+
+/// Two classes of a group with this offset: at upside 5 a debit of 200 units in the first and a credit of so many in the second.
+pub fn with_credit(offset: u32, credit: u32) -> Account {
+    let class = |number| Class { group: 3, number, offset, ..Class::default() };
+    let series = |class_number, moved| Series {
+        class_number,
+        series_type: EQUITY,
+        multiplier: 1,
+        closing: 1_000,
+        theoretical: [1_000, 1_000, 1_000, 1_000, 1_000, 1_000, 1_000, 1_000, 1_000, 1_000 + moved],
+        ..Series::default()
+    };
+    let records = [Record { series: 0, short: 1, ..Record::default() }, Record { series: 1, long: 1, ..Record::default() }];
+    fields::account(&[class(0), class(1)], &[series(0, 200), series(1, credit)], &records)
 }
 
 fn needed(a: &Account) -> Option<usize> {
@@ -62,8 +78,8 @@ pub fn cases() -> Vec<Case> {
     for s in samples() {
         add(s.account, LONGEST);
     }
-    // the scope's figures that are run: 257 records are refused by row 20 in the call over words
-    for a in [with_records(256), with_records(257), with_offset(100), with_offset(101)] {
+    // the scope's figures that are run, the offset's as U6 has them: 257 records are refused by row 20 in the call over words
+    for a in [with_records(256), with_records(257), with_offset(WHOLE_OFFSET), with_offset(WHOLE_OFFSET + 1)] {
         add(a, LONGEST);
     }
     // the figures of U3 beside the sample: an adjustment below upside 5, and ten long
@@ -73,6 +89,10 @@ pub fn cases() -> Vec<Case> {
     // those of U4 beside the sample: with minus zero, that alone, and with a wrong kind
     for words in [&[TOO_MANY, MINUS_ZERO][..], &[MINUS_ZERO], &[MINUS_ZERO, WRONG_KIND]] {
         add(with_words(words), LONGEST);
+    }
+    // those of U6: M7's credits of 101 and 1 at 85%, that of 101 at 82.75% and 0.85%
+    for (offset, credit) in [(8_500, 101), (8_500, 1), (8_275, 101), (85, 101)] {
+        add(with_credit(offset, credit), LONGEST);
     }
     let mut rng = Rng::new(2021);
     for _ in 0..16 {

@@ -1,88 +1,68 @@
-//! Cases of the edition before, brought to this one: what the request changed in their answers, and nothing else.
+//! Cases of the edition before, brought to this one: what the request changed in their files, and nothing else.
 use crate::files::{top, Made};
+use crate::layout::{class_at, counts, OFFSET};
 use crate::many::call_all;
 use crate::reading::read_report;
-use crate::reckoner::{call_bytes, call_words, check_words, first_bad_record, text, to_words, Refusal};
-use crate::requests::{cases, numbers, path, Case};
-use crate::text_reading::{said, Said};
+use crate::reckoner::{call_bytes, call_words, text, to_bytes, to_words};
+use crate::requests::{cases, check_report, numbers, path, report_cases, Case, REPORTS};
 use crate::vectors::{vectors, Vector};
 use std::fs;
 use std::path::PathBuf;
 
-/// U4: 22 named the first record with a bad word; now 22, 27 or 28 names a word. Any other answer, a number and its value, stays. None where it
-/// is no answer of the edition before to this batch.
-pub fn converted(before: (u32, usize), batch: &[u32]) -> Option<(u32, usize)> {
-    match before {
-        (22, record) if first_bad_record(batch) == Some(record) => check_words(batch).err().map(|r| (r.number, r.place)),
-        (22 | 27 | 28, _) => None,
-        other => Some(other),
+/// U6: each class's offset, which was in percent, in hundredths of a percent. One that was above its limit stays above it. Of a file that is
+/// cut the words that are there are converted.
+pub fn in_hundredths(day: &[u32]) -> Vec<u32> {
+    const PAYLOAD: u32 = (1 << 29) - 1;
+    let mut out = day.to_vec();
+    for c in 0..counts(day).0 {
+        if let Some(w) = out.get_mut(class_at(c) + OFFSET) {
+            *w = *w & !PAYLOAD | (*w & PAYLOAD).saturating_mul(100).min(PAYLOAD);
+        }
     }
+    out
 }
 
-/// What the outside reckoner gave, converted, which must be what the reckoner gives now.
-fn agreed(before: (u32, usize), now: (u32, usize), batch: &[u32], name: &str) -> (u32, usize) {
-    assert_eq!(Some(now), converted(before, batch), "{name}: no case of the edition before");
-    now
-}
-
-/// The printed text of a folder of ../vectors.
+/// The day file of a folder of ../vectors. What the outside reckoner printed must be what the converted file gives.
 fn folder(v: &Vector) -> Made {
+    // a file of no whole words has no classes
+    let day = if v.day.len() % 4 == 0 { to_bytes(&in_hundredths(&to_words(&v.day))) } else { v.day.clone() };
     let mut memory = vec![0; 4460];
-    let answer = call_bytes(&v.day, &v.batch, &mut memory);
-    let mut expected = v.text.clone();
-    if let Said::Refusal(number, place) = said(v.text.as_bytes()) {
-        let (number, place) = agreed((number, place as usize), numbers(answer), &to_words(&v.batch), &v.name);
-        expected = text(&Err(Refusal { number, place }));
-    }
+    let answer = call_bytes(&day, &v.batch, &mut memory);
     let printed = text(&answer.map(|n| read_report(&to_words(&memory)[..n]).expect("a report")));
-    assert_eq!(printed, expected, "{}: no case of the edition before", v.name);
-    (PathBuf::from(&v.name).join("stdout"), printed.into_bytes())
+    assert_eq!(printed, v.text, "{}: no case of the edition before", v.name);
+    (PathBuf::from(&v.name).join("day.w32"), day)
 }
 
-/// The numbers of a line.
-fn line(name: &str, numbers: impl IntoIterator<Item = u32>) -> String {
-    numbers.into_iter().fold(name.to_string(), |line, n| format!("{line} {n}"))
-}
-
-/// The answer of a case of the call over words; its memory must be what it was.
-fn words(case: &Case) -> String {
-    let (batch, mut memory) = (case.words("batch"), case.lent("memory"));
-    let answer = call_words(&case.words("day"), &batch, &[], &mut memory);
-    let (number, value) = agreed(case.answer(), numbers(answer), &batch, &case.name);
-    assert_eq!(memory, case.memory_after(), "{}", case.name);
-    line("answer", [number, value as u32])
-}
-
-/// The result list of a case of the call for many accounts; its answer and its memory must be what they were.
-fn many_accounts(case: &Case) -> String {
-    let (batches, lengths) = (case.words("batches"), case.words("lengths"));
+/// A case of the call for many accounts: its answer, result list and memory must be what the converted day file gives.
+fn check_many(case: &Case, day: &[u32]) {
     let (mut results, mut memory) = (case.lent("results"), case.lent("memory"));
-    let answer = call_all(&case.words("day"), &batches, &lengths, &mut results, &mut memory);
-    assert_eq!((numbers(answer), memory), (case.answer(), case.memory_after()), "{}", case.name);
-    let before = case.words("results_after");
-    let told = if answer.is_ok() { 2 * lengths.len() } else { 0 };
-    assert_eq!(results[told..], before[told..], "{}", case.name);
-    let mut start = 0;
-    for ((old, new), &length) in before[..told].chunks(2).zip(results[..told].chunks(2)).zip(&lengths) {
-        let batch = &batches[start..start + length as usize];
-        agreed((old[0], old[1] as usize), (new[0], new[1] as usize), batch, &case.name);
-        start += length as usize;
-    }
-    line("results_after", results)
+    let answer = call_all(day, &case.words("batches"), &case.words("lengths"), &mut results, &mut memory);
+    let expected = (case.answer(), case.words("results_after"), case.memory_after());
+    assert_eq!((numbers(answer), results, memory), expected, "{}: no case of the edition before", case.name);
 }
 
-/// The file of a request with one line of each case made anew.
-fn request(name: &str, count: usize, which: &str, made: fn(&Case) -> String) -> Made {
-    let mut lines = cases(name, count).into_iter().map(|case| made(&case));
+/// A case of the call over words likewise.
+fn check_words(case: &Case, day: &[u32]) {
+    check_report(case, |_, batch, deposits, memory| call_words(day, batch, deposits, memory));
+}
+
+/// The file of a request, each day file of which is converted and held to its case.
+fn request(name: &str, cases: Vec<Case>, check: fn(&Case, &[u32])) -> Made {
+    let mut days = cases.into_iter().map(|case| {
+        let day = in_hundredths(&case.words("day"));
+        check(&case, &day);
+        day.iter().fold("day".to_string(), |line, w| format!("{line} {w}"))
+    });
     let before = fs::read_to_string(top().join(path(name))).expect("cases");
-    let changed = |l: &str| if l.split(' ').next() == Some(which) { lines.next().expect("a case") } else { l.to_string() };
-    (path(name), before.lines().map(changed).map(|l| l + "\n").collect::<String>().into_bytes())
+    let line = |l: &str| if l.split(' ').next() == Some("day") { days.next().expect("a case") } else { l.to_string() };
+    (path(name), before.lines().map(line).map(|l| l + "\n").collect::<String>().into_bytes())
 }
 
 /// All cases of ../vectors that came at the edition before.
 pub fn files() -> Vec<Made> {
     let mut out: Vec<Made> = vectors().iter().map(folder).collect();
-    out.push(request("U01", 30, "results_after", many_accounts));
-    out.push(request("U03", 67, "answer", words));
+    out.push(request("U01", cases("U01", 30), check_many));
+    let earlier = REPORTS.iter().filter(|(name, _)| *name < "U06");
+    out.extend(earlier.map(|&(name, count)| request(name, report_cases(name, count), check_words)));
     out
 }

@@ -22,6 +22,7 @@ pub struct Class {
     pub equity_rate: u32,
     pub warrant_rate: u32,
     pub rights_rate: u32,
+    /// In hundredths of a percent.
     pub offset: u32,
     pub projected: [u32; 10],
 }

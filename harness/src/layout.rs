@@ -1,7 +1,11 @@
-//! The day file's layout, for all that reads or makes one here.
+//! The day file's layout and the unit of its offsets, for all that reads or makes one here.
 
 pub const CLASS_WORDS: usize = 20;
 pub const SERIES_WORDS: usize = 15;
+
+/// The place of a class's offset, and the offset that leaves a credit whole: 100 percent, in hundredths of a percent.
+pub const OFFSET: usize = 9;
+pub const WHOLE_OFFSET: u32 = 10_000;
 
 /// The words of the longest day file.
 pub const LONGEST_DAY: usize = series_at(64, 256);

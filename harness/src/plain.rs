@@ -1,5 +1,5 @@
 //! The same work in straight 64-bit Rust: the baseline of the benchmark. Its answers are held to the reckoner's in the tests.
-use crate::layout::{class_at, series_at, CLASS_WORDS, LONGEST_DAY, SERIES_WORDS};
+use crate::layout::{class_at, series_at, CLASS_WORDS, LONGEST_DAY, OFFSET, SERIES_WORDS, WHOLE_OFFSET};
 
 /// Entries of a table of nets, one a position.
 pub const NETS: usize = 1024;
@@ -67,8 +67,9 @@ impl Day<'_> {
         const PRICE: u32 = 500_000_000;
         for c in 0..self.classes {
             let w = &self.words[class_at(c)..][..CLASS_WORDS];
+            let mut prices = (1..OFFSET).chain(OFFSET + 1..CLASS_WORDS);
             let wrong =
-                bad(w[0], 2, 2047) || w[0] & 31 > 28 || bad(w[9], 4, 100) || (1..9).chain(10..20).any(|i| bad(w[i], 3, PRICE));
+                bad(w[0], 2, 2047) || w[0] & 31 > 28 || bad(w[OFFSET], 4, WHOLE_OFFSET) || prices.any(|i| bad(w[i], 3, PRICE));
             if wrong {
                 return Some((12, c));
             }
@@ -88,8 +89,8 @@ impl Day<'_> {
         for c in 0..self.classes {
             let slot = &mut offsets[(self.class(c, 0) & 31) as usize];
             if *slot == u32::MAX {
-                *slot = self.class(c, 9);
-            } else if *slot != self.class(c, 9) {
+                *slot = self.class(c, OFFSET);
+            } else if *slot != self.class(c, OFFSET) {
                 return Some((14, c));
             }
         }
@@ -332,10 +333,11 @@ fn class_sums(day: &Day, nets: &[i64; NETS], dvps: &[i64; NETS], book: usize, c:
             }
         }
     }
-    let offset = price(9);
+    const WHOLE: i64 = WHOLE_OFFSET as i64;
+    let offset = price(OFFSET);
     for k in 0..10 {
         let z = points[k];
-        sums.points[k] = if z < 0 { z / 100 * offset + z % 100 * offset / 100 } else { z };
+        sums.points[k] = if z < 0 { z / WHOLE * offset + z % WHOLE * offset / WHOLE } else { z };
     }
     for (t, i) in [(1, 5), (2, 4), (3, 4), (4, 6), (5, 7), (6, 8)] {
         sums.minimum += types[t].abs() * price(i);

@@ -1,5 +1,5 @@
 //! The scope as plain Rust: records and maps, 128-bit amounts, nothing shared with the unit.
-use crate::layout::{class_at, series_at, CLASS_WORDS, LONGEST_DAY, SERIES_WORDS};
+use crate::layout::{class_at, series_at, CLASS_WORDS, LONGEST_DAY, OFFSET, SERIES_WORDS, WHOLE_OFFSET};
 use std::cmp::Reverse;
 use std::collections::BTreeMap;
 
@@ -89,7 +89,8 @@ fn class_record(w: &[u32]) -> Option<Class> {
         return None;
     }
     for (i, &x) in w.iter().enumerate().skip(1) {
-        let fine = if i == 9 { kind(x) == 4 && payload(x) <= 100 } else { kind(x) == 3 && payload(x) <= PRICE };
+        let (right, limit) = if i == OFFSET { (4, WHOLE_OFFSET) } else { (3, PRICE) };
+        let fine = kind(x) == right && payload(x) <= limit;
         if !fine {
             return None;
         }
@@ -110,7 +111,7 @@ fn class_record(w: &[u32]) -> Option<Class> {
         equity_rate: p(6),
         warrant_rate: p(7),
         rights_rate: p(8),
-        offset: p(9),
+        offset: p(OFFSET),
         projected,
     })
 }
@@ -424,7 +425,8 @@ fn line(day: &DayFile, positions: &BTreeMap<Key, Position>, fail: bool, group: u
             }
         }
         for k in 0..10 {
-            points[k] += if class_points[k] < 0 { class_points[k] * class.offset / 100 } else { class_points[k] };
+            let z = class_points[k];
+            points[k] += if z < 0 { z * class.offset / i128::from(WHOLE_OFFSET) } else { z };
         }
         let rates =
             [class.future_rate, class.option_rate, class.option_rate, class.equity_rate, class.warrant_rate, class.rights_rate];

@@ -70,15 +70,21 @@ pub fn cases(request: &str, count: usize) -> Vec<Case> {
     out
 }
 
-/// The cases of the call over words; those from before U5 have no deposits.
-pub fn reports() -> Vec<Case> {
-    let mut out = cases("U03", 67);
-    out.extend(cases("U04", 58));
-    for case in &mut out {
+/// The requests that have cases of the call over words, and how many.
+pub const REPORTS: [(&str, usize); 4] = [("U03", 67), ("U04", 58), ("U05", 81), ("U06", 69)];
+
+/// The cases of one of them; those from before U5 have no deposits.
+pub fn report_cases(request: &str, count: usize) -> Vec<Case> {
+    let mut out = cases(request, count);
+    for case in out.iter_mut().filter(|_| request < "U05") {
         assert!(case.fields.insert("deposits".to_string(), Vec::new()).is_none(), "{}: deposits", case.name);
     }
-    out.extend(cases("U05", 81));
     out
+}
+
+/// All cases of the call over words.
+pub fn reports() -> Vec<Case> {
+    REPORTS.iter().flat_map(|&(request, count)| report_cases(request, count)).collect()
 }
 
 /// Makes a call over words of such a case: day file, batch, deposits and memory. Its answer and memory must be the case's.

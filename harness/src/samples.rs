@@ -47,7 +47,7 @@ pub const MINUS_ZERO: (usize, u32) = (4, 5 << 29 | 1 << 28);
 pub const WRONG_KIND: (usize, u32) = (12, 5 << 29);
 
 fn fail() -> Account {
-    let class = Class { group: 3, underlying: 125_000, equity_rate: 2_500, offset: 85, ..Class::default() };
+    let class = Class { group: 3, underlying: 125_000, equity_rate: 2_500, offset: 8_500, ..Class::default() };
     let theoretical = moved(125_000, SHARE_MOVES);
     let series = Series { series_type: EQUITY, multiplier: 1, closing: 125_000, theoretical, ..Series::default() };
     let ordinary = Record { long: 1_000, dvp: -123_000_000, ..Record::default() };
@@ -63,7 +63,7 @@ fn spread() -> Account {
         spot_rate: 300 * EURO,
         non_spot_rate: 200 * EURO,
         future_rate: 100 * EURO,
-        offset: 100,
+        offset: 10_000,
         projected: moved(24_600 * EURO, INDEX_MOVES),
         ..Class::default()
     };
@@ -92,7 +92,7 @@ fn options() -> Account {
         number: 0,
         underlying: 27_800,
         option_rate: 50_000,
-        offset: 90,
+        offset: 9_000,
         projected: moved(27_800, SHARE_MOVES),
         ..Class::default()
     };
@@ -101,7 +101,7 @@ fn options() -> Account {
         number: 1,
         underlying: 52_689,
         option_rate: 100_000,
-        offset: 90,
+        offset: 9_000,
         projected: [49_001, 49_739, 50_476, 51_214, 51_951, 53_427, 54_164, 54_902, 55_639, 56_377],
         ..Class::default()
     };
@@ -145,6 +145,24 @@ pub fn calls(adjustment: u32, long: u32, short: u32) -> Account {
     account(&[Class::default()], &[series], &[Record { long, short, ..Record::default() }])
 }
 
+/// 1,000 shares sold and 500 of another class of the group bought, each at its closing price.
+fn offset() -> Account {
+    let class = |number| Class { group: 6, number, equity_rate: 1_000, offset: 8_275, ..Class::default() };
+    let share = |class_number, closing| Series {
+        class_number,
+        series_type: EQUITY,
+        multiplier: 1,
+        closing,
+        theoretical: moved(closing, SHARE_MOVES),
+        ..Series::default()
+    };
+    let records = [
+        Record { series: 0, short: 1_000, dvp: 125_000_000, ..Record::default() },
+        Record { series: 1, long: 500, dvp: -100_000_000, ..Record::default() },
+    ];
+    account(&[class(0), class(1)], &[share(0, 125_000), share(1, 200_000)], &records)
+}
+
 /// M8: a net of 1,001 at multiplier 10,000, in the second record.
 fn refused() -> Account {
     let class = Class { group: 5, underlying: 10_000, option_rate: 1_000, ..Class::default() };
@@ -177,6 +195,11 @@ pub fn samples() -> Vec<Sample> {
             "adjustment",
             "U3: M5's ten short calls with a short option adjustment of 0.50; at upside 5 they add 3,300, not 2,390.",
             calls(5_000, 0, 10),
+        ),
+        sample(
+            "offset",
+            "U6: 1,000 shares sold and 500 of another class of the group bought, offset 82.75%: at upside 5 a debit of 1,250 less 827.50 of a credit of 1,000.",
+            offset(),
         ),
         sample(
             "word",

@@ -1,35 +1,52 @@
-//! The converter: an answer of the edition before becomes the one of this edition, and none of this edition passes for one of it.
-use harness::accounts::{account, damage, mixed};
-use harness::editions::converted;
-use harness::reckoner::{call_words, first_bad_record};
-use harness::requests::numbers;
+//! The converter: offsets in percent become hundredths of a percent and no other word changes; no case of this edition passes for one of the
+//! edition before.
+use harness::accounts::{account, damage, mixed, Account};
+use harness::cases::with_credit;
+use harness::editions::{files, in_hundredths};
+use harness::layout::{class_at, counts, CLASS_WORDS, OFFSET};
+use harness::reckoner::{reckon, Refusal};
 use harness::rng::Rng;
-use std::collections::BTreeMap;
-
-/// The answer as the edition before gave it: 22 and the first record with a bad word.
-fn before(batch: &[u32], now: (u32, usize)) -> (u32, usize) {
-    match now.0 {
-        22 | 27 | 28 => (22, first_bad_record(batch).expect("a bad record")),
-        _ => now,
-    }
-}
 
 #[test]
-fn answers_become_those_of_this_edition() {
+fn offsets_alone_change() {
     let mut rng = Rng::new(93);
-    let mut numbers_met: BTreeMap<u32, usize> = BTreeMap::new();
+    let mut changed = 0;
     for i in 0..20_000 {
         let mut a = account(&mut rng, mixed(i));
         for _ in 0..i % 3 {
             damage(&mut rng, &mut a);
         }
-        let now = numbers(call_words(&a.day, &a.batch, &[], &mut [0; 1115]));
-        let old = before(&a.batch, now);
-        assert_eq!(converted(old, &a.batch), Some(now), "case {i}");
-        if old != now {
-            assert_eq!(converted(now, &a.batch), None, "case {i}");
+        let mut now = in_hundredths(&a.day);
+        let end = class_at(counts(&a.day).0).min(a.day.len());
+        for class in 1..end {
+            if class % CLASS_WORDS == 1 + OFFSET && now[class] != a.day[class] {
+                assert_eq!(now[class] >> 29, a.day[class] >> 29, "case {i}");
+                now[class] = a.day[class];
+                changed += 1;
+            }
         }
-        *numbers_met.entry(now.0).or_default() += 1;
+        assert_eq!(now, a.day, "case {i}");
     }
-    assert!([22, 27, 28].iter().all(|row| numbers_met[row] >= 50), "{numbers_met:?}");
+    assert!(changed >= 20_000, "{changed}");
+}
+
+/// The amounts of each offset in percent by the step as it was, and row 12 above 100.
+#[test]
+fn amounts_and_refusals_stay() {
+    let converted = |a: Account| reckon(&in_hundredths(&a.day), &a.batch);
+    for percent in 0..=100 {
+        for credit in [0, 1, 99, 100, 101, 199] {
+            let left = 200 - i128::from(credit * percent / 100);
+            assert_eq!(converted(with_credit(percent, credit)).expect("accepted").lines[0].amounts[3], left, "{percent}");
+        }
+    }
+    for percent in [101, 102, 10_000, 10_001, 5_368_709, 5_368_710, 42_949_673, 536_870_911] {
+        assert_eq!(converted(with_credit(percent, 101)), Err(Refusal { number: 12, place: 0 }), "{percent}");
+    }
+}
+
+/// A second run ends before it writes.
+#[test]
+fn no_case_is_of_the_edition_before() {
+    assert!(std::panic::catch_unwind(files).is_err());
 }

@@ -1,8 +1,8 @@
 //! The scope's figures that are run, at the byte call; those of deposits at the call over words.
 use harness::accounts::Account;
-use harness::cases::{with_offset, with_records};
+use harness::cases::{with_credit, with_offset, with_records};
 use harness::deposits::MOST_SHARES;
-use harness::fields::{account, expiry, Class, Record, Series, CALL, FUTURE};
+use harness::fields::{account, expiry, Class, Record, Series, CALL, EQUITY, FUTURE};
 use harness::reading::read_report;
 use harness::reckoner::{reckon, reckon_with, text, to_bytes, to_words, Refusal, Report};
 use harness::samples::{calls, samples, with_words, MINUS_ZERO, TOO_MANY, WRONG_KIND};
@@ -29,9 +29,43 @@ fn records_256_and_257() {
 }
 
 #[test]
-fn offset_100_and_101() {
-    assert_eq!(run(&with_offset(100)).expect("accepted").lines.len(), 2);
-    assert_eq!(run(&with_offset(101)), Err(Refusal { number: 12, place: 1 }));
+fn offset_10000_and_10001() {
+    assert_eq!(run(&with_offset(10_000)).expect("accepted").lines.len(), 2);
+    assert_eq!(run(&with_offset(10_001)), Err(Refusal { number: 12, place: 1 }));
+}
+
+/// What is left of M7's credits beside a debit of 200.
+#[test]
+fn credits_after_their_offset() {
+    let additional = |offset, credit| run(&with_credit(offset, credit)).expect("accepted").lines[0].amounts[3];
+    assert_eq!((additional(8_500, 101), additional(8_500, 1)), (200 - 85, 200));
+    assert_eq!((additional(8_275, 101), additional(85, 101)), (200 - 83, 200));
+    assert_eq!((additional(10_000, 101), additional(9_999, 101), additional(0, 101)), (200 - 101, 200 - 100, 200));
+}
+
+/// 128 shares sold and 128 of another class of the group bought at the highest price: a debit and a credit of 6.4·10^17 at each point, the
+/// credit's product with the offset far above 64 bits.
+#[test]
+fn credits_at_the_limits() {
+    let class = |number, offset| Class { number, offset, ..Class::default() };
+    let series = |i: u32| Series {
+        class_number: i / 128,
+        series_type: EQUITY,
+        serial: i % 128,
+        multiplier: 1,
+        theoretical: [500_000_000; 10],
+        ..Series::default()
+    };
+    let series: Vec<Series> = (0..256).map(series).collect();
+    let (size, none) = (10_000_000, 0);
+    let sides = |i| if i < 128 { (none, size) } else { (size, none) };
+    let record = |i| Record { series: i, long: sides(i).0, short: sides(i).1, ..Record::default() };
+    let records: Vec<Record> = (0..256).map(record).collect();
+    for offset in [0, 1, 85, 8_275, 8_500, 9_999, 10_000] {
+        let a = account(&[class(0, offset), class(1, offset)], &series, &records);
+        let left = 640_000_000_000_000_000 / 10_000 * i128::from(10_000 - offset);
+        assert_eq!(run(&a).expect("accepted").lines[0].amounts[3], left, "{offset}");
+    }
 }
 
 #[test]

@@ -1,7 +1,7 @@
 //! The byte call against the reckoner: number, place and every byte of the memory.
 use harness::accounts::{
-    accepted, account, all_lines, damage, damage_word, extreme, mixed, utmost, without_adjustments, Account, SMALL, TYPICAL,
-    WORD_WAYS,
+    accepted, account, all_lines, damage, damage_word, extreme, mixed, utmost, without_adjustments, without_decimals, Account,
+    SMALL, TYPICAL, WORD_WAYS,
 };
 use harness::layout::{counts, series_at, LONGEST_DAY};
 use harness::reading::read_report;
@@ -72,6 +72,8 @@ fn random_and_damaged_accounts() {
     let mut types: BTreeSet<(u32, bool, bool)> = BTreeSet::new();
     // answers that are others without the adjustments, by number
     let mut adjusted: BTreeMap<u32, usize> = BTreeMap::new();
+    // .. and without the decimals of the offsets
+    let mut decimals: BTreeMap<u32, usize> = BTreeMap::new();
     let mut longest = 0;
     for i in 0..60_000 {
         let mut a = account(&mut rng, mixed(i));
@@ -93,6 +95,9 @@ fn random_and_damaged_accounts() {
         if matches!(number, 0 | 12 | 17) && reckon(&a.day, &a.batch) != reckon(&without_adjustments(&a.day), &a.batch) {
             *adjusted.entry(number).or_default() += 1;
         }
+        if matches!(number, 0 | 12 | 14) && reckon(&a.day, &a.batch) != reckon(&without_decimals(&a.day), &a.batch) {
+            *decimals.entry(number).or_default() += 1;
+        }
         if let Ok(n) = result {
             longest = longest.max(n);
             let classes = counts(&a.day).0;
@@ -102,12 +107,14 @@ fn random_and_damaged_accounts() {
             }
         }
     }
-    println!("answers by number: {numbers:?}, by the adjustments: {adjusted:?}; longest report: {longest} words");
+    println!("answers by number: {numbers:?}, by the adjustments: {adjusted:?}, by the offsets' decimals: {decimals:?}");
+    println!("longest report: {longest} words");
     let reached: Vec<u32> = numbers.keys().copied().collect();
     let table = [0, 1, 2, 10, 11, 12, 13, 14, 15, 16, 17, 20, 21, 22, 23, 24, 25, 26, 27, 28, 30, 40];
     assert_eq!(reached, table);
     assert!(numbers[&0] >= 20_000);
     assert!(adjusted[&0] >= 500 && adjusted[&12] >= 50 && adjusted[&17] >= 50);
+    assert!(decimals[&0] >= 500 && decimals[&12] >= 50 && decimals[&14] >= 50);
     // every type open and in the ordinary book, options exercised, securities as fails
     let open = (1..=6).map(|t| (t, false, false));
     let all: BTreeSet<_> = open.chain([(2, true, false), (3, true, false)]).chain((4..=6).map(|t| (t, false, true))).collect();

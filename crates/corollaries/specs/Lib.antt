@@ -4,6 +4,7 @@ pub mod Untouched
 pub mod Written
 pub mod Totals
 pub mod OpenPrices
+pub mod OffsetUnits
 pub mod Covered
 pub mod TwoGroups
 pub mod RuledOut

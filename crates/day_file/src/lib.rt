@@ -24,8 +24,8 @@ pub const MOST_SERIES: usize = 256;
 // The product groups.
 pub const GROUPS: usize = 29;
 
-// An offset that leaves a credit whole.
-pub const WHOLE_OFFSET: u32 = 100;
+// An offset that leaves a credit whole: 100 percent, in hundredths of a percent.
+pub const WHOLE_OFFSET: u32 = 10000;
 
 // The first word, 0 where there is none.
 pub fn day_header(day: &[u32]) -> u32
@@ -136,7 +136,7 @@ pub fn rights_rate(day: &[u32], c: usize) -> u32
     payload(class_word(day, c, 8))
 }
 
-// Group offset in percent.
+// Group offset in hundredths of a percent.
 pub fn offset(day: &[u32], c: usize) -> u32
     requires { ⌜ classAt (c + 1) ≤ length (now day) ⌝ }
     ensures { λ r. ⌜ r ≡ offsetOf (now (day .entry)) c ⌝ }

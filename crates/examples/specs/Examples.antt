@@ -9,7 +9,7 @@ use Rattle.model.specs.Netting.{net, dvp}
 use Rattle.model.specs.Steps.Mtm.{mtm}
 use Rattle.model.specs.Steps.Premium.{premium}
 use Rattle.model.specs.Steps.Additional.{additional}
-use Rattle.model.specs.Accounts.{Figure, allComputed, allPublished, minus, ten, noRates, dayFile, classRecord, seriesRecord, batchFile, positionRecord, status, lineOf, classPoints, groupPoints}
+use Rattle.model.specs.Accounts.{Figure, allComputed, allPublished, minus, ten, noRates, dayFile, percent, classRecord, seriesRecord, batchFile, positionRecord, status, lineOf, classPoints, groupPoints}
 use Rattle.model.specs.Figures.{share, shareHeld}
 use Rattle.model.specs.Computing.{everything}
 
@@ -92,8 +92,8 @@ straddleLong = batchFile 2 (positionRecord 0 10 0 (pos 0) ++ positionRecord 1 10
 abbrev twoIndices : List ℕ
 twoIndices =
     dayFile 2 2
-    (classRecord 2 0 noRates 60 (ten 0)
-    ++ (classRecord 2 1 noRates 60 (ten 0)
+    (classRecord 2 0 noRates (percent 60) (ten 0)
+    ++ (classRecord 2 1 noRates (percent 60) (ten 0)
     ++ (indexFuture
     ++ seriesRecord 1 1 3 255 (0 ∷ 3350000 ∷ [])
     (3132250 ∷ 3175800 ∷ 3219350 ∷ 3262900 ∷ 3306450 ∷ 3393550 ∷ 3437100 ∷ 3480650 ∷ 3524200 ∷ 3567750 ∷ []))))
@@ -169,7 +169,7 @@ oneShort p = positionRecord p 0 1 (pos 0)
 abbrev threePositions : List ℕ
 threePositions =
     dayFile 1 3
-    (classRecord 7 0 noRates 85 (ten 0)
+    (classRecord 7 0 noRates (percent 85) (ten 0)
     ++ (amounts 0 4 (8000 ∷ 9200 ∷ 9400 ∷ 9600 ∷ 9800 ∷ 10200 ∷ 10400 ∷ 10600 ∷ 10800 ∷ 11000 ∷ [])
     ++ (amounts 0 5 (9000 ∷ 9300 ∷ 9400 ∷ 9500 ∷ 9600 ∷ 10100 ∷ 10200 ∷ 10300 ∷ 10400 ∷ 10500 ∷ [])
     ++ amounts 0 6 (15000 ∷ 14000 ∷ 13000 ∷ 12000 ∷ 11000 ∷ 9000 ∷ 8000 ∷ 7000 ∷ 6000 ∷ 5000 ∷ []))))
@@ -178,9 +178,9 @@ threePositions =
 abbrev threeClasses : List ℕ
 threeClasses =
     dayFile 3 3
-    (classRecord 8 0 noRates 100 (ten 0)
-    ++ (classRecord 8 1 noRates 100 (ten 0)
-    ++ (classRecord 8 2 noRates 100 (ten 0)
+    (classRecord 8 0 noRates (percent 100) (ten 0)
+    ++ (classRecord 8 1 noRates (percent 100) (ten 0)
+    ++ (classRecord 8 2 noRates (percent 100) (ten 0)
     ++ (amounts 0 4 (12000 ∷ 12500 ∷ 11800 ∷ 11100 ∷ 10400 ∷ 9405 ∷ 8810 ∷ 8215 ∷ 7620 ∷ 7025 ∷ [])
     ++ (amounts 1 4 (9000 ∷ 9200 ∷ 9400 ∷ 9600 ∷ 9800 ∷ 10200 ∷ 10400 ∷ 10600 ∷ 10800 ∷ 11000 ∷ [])
     ++ amounts 2 4 (9900 ∷ 9920 ∷ 9940 ∷ 9960 ∷ 9980 ∷ 10020 ∷ 10060 ∷ 10100 ∷ 10150 ∷ 10210 ∷ []))))))

@@ -1,6 +1,6 @@
 -- Files written from their fields, and figures computed from them: what the worked examples are made of. Amounts are in ten-thousandths of a euro.
 use mathlib.Core.List.{List, [], _∷_, _++_, map}
-use Prim.Native.Nat.{ℕ, _+_, _*_, _/_, _^_}
+use Prim.Native.Nat.{ℕ, _+_, _*_, _^_}
 use lib.IntN.{ℤ, pos, negℤ}
 use lib.ListN.{replicate}
 use Rattle.model.specs.declared.Answer.{Answer}
@@ -10,7 +10,7 @@ use Rattle.model.specs.Netting.{net, dvp}
 use Rattle.model.specs.Steps.{lineAmounts, classPoint, groupPoint}
 use Rattle.model.specs.Calls.{verdict, answerOf, answer}
 use Rattle.model.specs.Report.{longestReport}
-use Rattle.model.specs.Limits.{wholeOffset, pointCount}
+use Rattle.model.specs.Limits.{pointCount}
 
 -- ---- a figure: what the definitions compute, and what is published
 
@@ -37,13 +37,13 @@ ten p = replicate pointCount p
 abbrev pub dayFile : ℕ → ℕ → List ℕ → List ℕ
 dayFile classes series records = word 1 (classes + 2 ^ 7 * series) ∷ records
 
--- an offset in percent, as its word has it
+-- an offset in percent, as its word has it: in hundredths
 abbrev pub percent : ℕ → ℕ
-percent p = p * (wholeOffset / 100)
+percent p = 100 * p
 
--- group, class number; the eight prices and rates; offset in percent; projected prices
+-- group, class number; the eight prices and rates; offset; projected prices
 abbrev pub classRecord : ℕ → ℕ → List ℕ → ℕ → List ℕ → List ℕ
-classRecord g n rates o projected = word 2 (g + 2 ^ 5 * n) ∷ (map (word 3) rates ++ word 4 (percent o) ∷ map (word 3) projected)
+classRecord g n rates o projected = word 2 (g + 2 ^ 5 * n) ∷ (map (word 3) rates ++ word 4 o ∷ map (word 3) projected)
 
 -- class number, type, expiry; multiplier; strike and closing price; adjustment; theoretical prices
 abbrev pub adjustedRecord : ℕ → ℕ → ℕ → ℕ → List ℕ → ℕ → List ℕ → List ℕ

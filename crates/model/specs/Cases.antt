@@ -44,7 +44,7 @@ putsExercised = batchFile 1 (positionRecord (2 ^ 8) 2 0 (pos 0))
 abbrev edges : List ℕ
 edges =
     dayFile 2 1
-    (classRecord 3 31 noRates 50 (ten 0) ++ (classRecord 28 63 noRates 100 (ten 0) ++ seriesRecord 63 4 0 10000 (0 ∷ 500000000 ∷ []) (ten 0)))
+    (classRecord 3 31 noRates 5000 (ten 0) ++ (classRecord 28 63 noRates 10000 (ten 0) ++ seriesRecord 63 4 0 10000 (0 ∷ 500000000 ∷ []) (ten 0)))
 
 abbrev edgesHeld : List ℕ
 edgesHeld = batchFile 1 (positionRecord 0 0 0 (minus 5000000000000000))

@@ -76,6 +76,7 @@ warrantRate d c = payload (classWord d c 7)
 abbrev pub rightsRate : List ℕ → ℕ → ℕ
 rightsRate d c = payload (classWord d c 8)
 
+-- in hundredths of a percent
 abbrev pub offset : List ℕ → ℕ → ℕ
 offset d c = payload (classWord d c 9)
 

@@ -51,14 +51,14 @@ share =
 abbrev pub shareHeld : List ℕ
 shareHeld = batchFile 1 (positionRecord 0 200 0 (minus 81500000))
 
--- ---- M4: three classes of a group, offset 50, each with one share short; closing prices 2,500
+-- ---- M4: three classes of a group, offset 50%, each with one share short; closing prices 2,500
 
 abbrev group4 : List ℕ
 group4 =
     dayFile 3 3
-    (classRecord 5 0 noRates 50 (ten 0)
-    ++ (classRecord 5 1 noRates 50 (ten 0)
-    ++ (classRecord 5 2 noRates 50 (ten 0)
+    (classRecord 5 0 noRates (percent 50) (ten 0)
+    ++ (classRecord 5 1 noRates (percent 50) (ten 0)
+    ++ (classRecord 5 2 noRates (percent 50) (ten 0)
     ++ (seriesRecord 0 4 0 1 (0 ∷ 25000000 ∷ []) (45000000 ∷ 50000000 ∷ replicate 8 25000000)
     ++ (seriesRecord 1 4 0 1 (0 ∷ 25000000 ∷ []) (5000000 ∷ 9000000 ∷ replicate 8 25000000)
     ++ seriesRecord 2 4 0 1 (0 ∷ 25000000 ∷ []) (23000000 ∷ 23400000 ∷ replicate 8 25000000))))))
@@ -170,7 +170,7 @@ figures =
       computed = status credit creditHeld ∷ lineOf credit creditHeld 7;
       published = pos 0 ∷ pos 0 ∷ pos 1500000 ∷ minus 8914000 ∷ pos 3098000 ∷ pos 0 ∷ pos 4316000 ∷ [];
     }
-    ∷ record { computed = afterOffset (percent 85) (minus 101) ∷ afterOffset (percent 85) (minus 1) ∷ []; published = minus 85 ∷ pos 0 ∷ [] }
+    ∷ record { computed = afterOffset 8500 (minus 101) ∷ afterOffset 8500 (minus 1) ∷ []; published = minus 85 ∷ pos 0 ∷ [] }
     ∷ record {
       computed = answerNumbers large (largeHeld 1000) ++ answerNumbers large (largeHeld 1001);
       published = pos 0 ∷ pos 32 ∷ pos 30 ∷ pos 0 ∷ [];

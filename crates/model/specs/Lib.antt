@@ -28,5 +28,6 @@ pub mod Refusals
 pub mod ManyFigures
 pub mod AdjustmentFigures
 pub mod DepositFigures
+pub mod OffsetFigures
 pub mod Ascii
 pub mod Texts

@@ -46,9 +46,9 @@ mostLines = 2 * groupCount
 abbrev pub multiplierLimit : ℕ
 multiplierLimit = 10000
 
--- an offset that leaves a credit whole: 100 percent
+-- an offset that leaves a credit whole: 100 percent, in hundredths of a percent
 abbrev pub wholeOffset : ℕ
-wholeOffset = 100
+wholeOffset = 10000
 
 -- the points D5 .. D1, U1 .. U5
 abbrev pub pointCount : ℕ

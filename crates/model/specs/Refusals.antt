@@ -11,7 +11,6 @@ use Rattle.model.specs.Calls.{answer}
 use Rattle.model.specs.Bytes.{row1, row2, byteAnswer}
 use Rattle.model.specs.Accounts.{Figure, allComputed, allPublished, ten, noRates, dayFile, classRecord, seriesRecord, batchFile, positionRecord, numbersOf, answerNumbers}
 use Rattle.model.specs.Computing.{everything}
-use Rattle.model.specs.Limits.{wholeOffset}
 use Rattle.model.specs.DayFile.{classAt, dayWords}
 use Rattle.model.specs.Report.{longestReport}
 
@@ -77,11 +76,11 @@ refusals =
     }
     -- 11: a word too many
     ∷ record { computed = answerNumbers (day ++ 0 ∷ []) none; published = pos 11 ∷ pos 0 ∷ [] }
-    -- 12: a spare bit of the class's key, group 29, an offset above the whole; a multiplier of 10,001 and a price above its limit in the first series, a multiplier of 0 in the second
+    -- 12: a spare bit of the class's key, group 29, an offset of 10,001; a multiplier of 10,001 and a price above its limit in the first series, a multiplier of 0 in the second
     ∷ record {
       computed =
           answerNumbers (changedClass 0 (word 2 (2 + 2 ^ 11))) none ++ answerNumbers (changedClass 0 (word 2 29)) none
-          ++ answerNumbers (changedClass 9 (word 4 (wholeOffset + 1))) none
+          ++ answerNumbers (changedClass 9 (word 4 10001)) none
           ++ answerNumbers (changedSeries 0 1 (word 4 10001)) none
           ++ answerNumbers (changedSeries 0 3 (word 3 500000001)) none
           ++ answerNumbers (changedSeries 1 1 (word 4 0)) none;
@@ -92,9 +91,9 @@ refusals =
       computed = answerNumbers (classes (classRecord 2 5 noRates 0 (ten 0)) (classRecord 2 5 noRates 0 (ten 0))) none;
       published = pos 13 ∷ pos 1 ∷ [];
     }
-    -- 14: offsets 50 and 51 in one group
+    -- 14: offsets of 82.75% and 82.76% in one group
     ∷ record {
-      computed = answerNumbers (classes (classRecord 2 5 noRates 50 (ten 0)) (classRecord 2 6 noRates 51 (ten 0))) none;
+      computed = answerNumbers (classes (classRecord 2 5 noRates 8275 (ten 0)) (classRecord 2 6 noRates 8276 (ten 0))) none;
       published = pos 14 ∷ pos 1 ∷ [];
     }
     -- 15: class 1 in the third series

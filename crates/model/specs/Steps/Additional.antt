@@ -10,9 +10,9 @@ use Rattle.model.specs.Steps.Classes.{overClasses}
 use Rattle.model.specs.Steps.Points.{classPoint}
 use Rattle.model.specs.Limits.{wholeOffset, pointCount}
 
--- a credit is multiplied by the offset and divided by the whole, rounded toward zero; a debit remains whole
+-- a credit is multiplied by the offset o and divided by the whole, rounded toward zero; a debit remains whole
 unfoldable pub afterOffset : ℕ → ℤ → ℤ
-afterOffset percent z = cond (ltZ z (pos 0)) (quotZ (z *ℤ pos percent) (pos wholeOffset)) z
+afterOffset o z = cond (ltZ z (pos 0)) (quotZ (z *ℤ pos o) (pos wholeOffset)) z
 
 module _ (d : List ℕ) (net : ℕ → ℤ) (book : ℕ) where
   -- the classes of a group added point by point, each after its own offset
