@@ -19,36 +19,36 @@ fn in_units(product: u64) -> u64
     product / WHOLE
 }
 
-// What an offset leaves of a size. The product alone could wrap, so the quotient and the remainder by the whole go apart.
-fn left(size: u64, share: u64) -> u64
-    requires { ⌜ (size ≤ worthLimit) × (share ≤ wholeOffset) ⌝ }
-    ensures { λ r. ⌜ r ≡ size * share / wholeOffset ⌝ }
+// What the offset o leaves of a size. The product alone could wrap, so the quotient and the remainder by the whole go apart.
+fn left(size: u64, o: u64) -> u64
+    requires { ⌜ (size ≤ worthLimit) × (o ≤ wholeOffset) ⌝ }
+    ensures { λ r. ⌜ r ≡ size * o / wholeOffset ⌝ }
 {
-    size / WHOLE * share + in_units(size % WHOLE * share)
+    size / WHOLE * o + in_units(size % WHOLE * o)
 }
 
-// A credit times the offset, a part of the whole: its size is rounded down, so it is rounded toward zero. A debit whole.
-fn after_offset(share: u32, amount: i64) -> i64
-    requires { ⌜ (share ≤ wholeOffset) × (natAbs amount ≤ worthLimit) ⌝ }
-    ensures { λ r. ⌜ r ≡ afterOffset share amount ⌝ }
+// An amount after the offset o. Of a credit the size is rounded down, which rounds the credit toward zero; a debit is whole.
+fn after_offset(o: u32, amount: i64) -> i64
+    requires { ⌜ (o ≤ wholeOffset) × (natAbs amount ≤ worthLimit) ⌝ }
+    ensures { λ r. ⌜ r ≡ afterOffset o amount ⌝ }
 {
     if amount < 0 {
-        return 0 - left(words::size(amount), words::wide(share)) as i64;
+        return 0 - left(words::size(amount), words::wide(o)) as i64;
     }
     amount
 }
 
-// Ten amounts of a class after its offset.
-pub fn offset(points: Points, share: u32) -> Points
-    requires { ⌜ share ≤ wholeOffset ⌝ }
+// Ten amounts of a class after its offset o.
+pub fn offset(points: Points, o: u32) -> Points
+    requires { ⌜ o ≤ wholeOffset ⌝ }
     requires { ⌜ ((k : ℕ) → k < pointCount → natAbs (getD (points .at) k (pos 0)) ≤ worthLimit) ⌝ }
-    ensures { λ r. ⌜ r .at ≡ tabulate pointCount (λ k. afterOffset share (getD (points .at) k (pos 0))) ⌝ }
+    ensures { λ r. ⌜ r .at ≡ tabulate pointCount (λ k. afterOffset o (getD (points .at) k (pos 0))) ⌝ }
 {
     let mut next = points;
     let mut k: usize = 0;
     while k < Points::COUNT {
         let was = next.at[k];
-        next.at[k] = after_offset(share, was);
+        next.at[k] = after_offset(o, was);
         k = k + 1;
     }
     next

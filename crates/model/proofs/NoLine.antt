@@ -18,6 +18,7 @@ use Rattle.model.specs.DayFile.{classCount, group, spotRate, nonSpotRate
 use Rattle.model.specs.Netting.{position}
 use Rattle.model.specs.Steps
 use Rattle.numbers.specs.Tests.{or-left, or-right}
+use Rattle.model.proofs.Offsets.{debit-after}
 use Rattle.model.proofs.Lines.{amounts-same}
 use Rattle.model.specs.Limits.{pointCount}
 
@@ -101,9 +102,9 @@ module _ (d : List ℕ) (k : ℕ) where
     no-classes f h = sumWhere-zeros (classCount d) (λ c. eqb (group d c) g) f h
 
     no-additional : Steps.additional d empty k g ≡ pos 0
-    unfolding Steps.additional Steps.groupPoint Steps.afterOffset largest
+    unfolding Steps.additional Steps.groupPoint largest
     no-additional =
-        largest-ext pointCount _ (λ j. pos 0) (λ j h. no-classes _ (λ c. ap (Steps.afterOffset (offset d c)) (no-point c j)))
+        largest-ext pointCount _ (λ j. pos 0) (λ j h. no-classes _ (λ c. ap (Steps.afterOffset (offset d c)) (no-point c j) ∙ debit-after (offset d c) (pos 0) refl))
 
     no-requirement : Steps.requirement d empty k g ≡ pos 0
     unfolding Steps.requirement Steps.groupMinimum

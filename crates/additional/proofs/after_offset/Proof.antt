@@ -21,7 +21,7 @@ module _ (c : tie.After-wide) where
   z = c .before .before .before .args .amount
 
   abbrev o : ℕ
-  o = c .before .before .before .args .share
+  o = c .before .before .before .args .o
 
   size-is : c .before .size .result ≡ natAbs z
   size-is = c .before .size .ensures .0 ∙ ap natAbs (toZ-ofZ (c .before .before .before .fits .amount))
@@ -51,7 +51,7 @@ returns-2 : tie.Need-returns-2
 returns-2 c =
     let a = c .before in
     let e = toZ-ofZ (a .fits .amount) in
-    e ∙ sym (debit-after (a .args .share) (a .args .amount) (rw e at (c .if1 .left)))
+    e ∙ sym (debit-after (a .args .o) (a .args .amount) (rw e at (c .if1 .left)))
 
 pub after-offset-spec : {M : Type 1} → statement M
 after-offset-spec =
