@@ -5,7 +5,7 @@
  * additional and minimum margin, total margin, fails held separately, one line for each product group of each book.
  * Every amount is exact, in ten-thousandths of a euro; debit is positive, credit negative.
  *
- * A class's offset in the day file is in hundredths of a percent. Nothing marks a file of the edition before, whose offsets
+ * A class's offset in the day file is in hundredths of a percent. Nothing marks a file from before request U6, whose offsets
  * are in percent: its 85 reads as 0.85 percent.
  *
  * All three memories are runs of 32-bit words, low byte first. Over arrays of uint32_t, mars_report_words does the same and

@@ -246,15 +246,16 @@ pub fn all_lines() -> Account {
     fields::account(&classes, &series, &records)
 }
 
+const HIGHEST_PRICE: u32 = 500_000_000;
+
 /// Up to 256 positions at the limits: prices and rates 0 or the highest, nets and DVP amounts as large as the rows allow.
 pub fn extreme(rng: &mut Rng) -> Account {
-    const PRICE: u32 = 500_000_000;
     let classes = rng.pick(&[1, 2, 16, 64]);
     let groups = rng.pick(&[1, 2, 29]);
     let offset = rng.pick(&[0, 1, 8_275, WHOLE_OFFSET - 1, WHOLE_OFFSET]);
     let only = rng.below(12) as u32;
     let down = rng.once_in(3);
-    let high = |rng: &mut Rng| PRICE * u32::from(!rng.once_in(4));
+    let high = |rng: &mut Rng| HIGHEST_PRICE * u32::from(!rng.once_in(4));
     let class = |rng: &mut Rng, number: u32| Class {
         group: number % groups,
         number,
@@ -301,23 +302,35 @@ pub fn extreme(rng: &mut Rng) -> Account {
     fields::account(&classes, &series, &records)
 }
 
-/// 256 shares sold at the highest price, rate and DVP amount: a margin of 256 × 1.5·10^16.
-pub fn utmost() -> Account {
-    const PRICE: u32 = 500_000_000;
-    let class = |number| Class { number, equity_rate: PRICE, ..Class::default() };
+/// 256 shares of two classes, closing at this price, the highest at every point, a record each.
+fn highest(class: Class, closing: u32, record: impl Fn(u32) -> Record) -> Account {
     let series = |i: u32| Series {
         class_number: i / 128,
         series_type: EQUITY,
         serial: i % 128,
         multiplier: 1,
-        closing: PRICE,
-        theoretical: [PRICE; 10],
+        closing,
+        theoretical: [HIGHEST_PRICE; 10],
         ..Series::default()
     };
-    let record = |series| Record { series, short: 10_000_000, dvp: -5_000_000_000_000_000, ..Record::default() };
     let series: Vec<Series> = (0..256).map(series).collect();
-    let records: Vec<Record> = (0..256).map(record).collect();
-    fields::account(&[class(0), class(1)], &series, &records)
+    let records: Vec<Record> = (0..256).map(|series| Record { series, ..record(series) }).collect();
+    fields::account(&[class, Class { number: 1, ..class }], &series, &records)
+}
+
+/// 256 shares sold at the highest price, rate and DVP amount: a margin of 256 × 1.5·10^16.
+pub fn utmost() -> Account {
+    let class = Class { equity_rate: HIGHEST_PRICE, ..Class::default() };
+    highest(class, HIGHEST_PRICE, |_| Record { short: 10_000_000, dvp: -5_000_000_000_000_000, ..Record::default() })
+}
+
+/// 128 shares sold and 128 of the other class of the group bought: at each point a debit and, before this offset, a credit of 6.4·10^17.
+pub fn opposed(offset: u32) -> Account {
+    let record = |i| {
+        let (long, short) = if i < 128 { (0, 10_000_000) } else { (10_000_000, 0) };
+        Record { long, short, ..Record::default() }
+    };
+    highest(Class { offset, ..Class::default() }, 0, record)
 }
 
 /// Damages an account in one of many ways; each row of the table is reached by some of them.

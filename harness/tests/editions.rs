@@ -18,12 +18,10 @@ fn offsets_alone_change() {
         }
         let mut now = in_hundredths(&a.day);
         let end = class_at(counts(&a.day).0).min(a.day.len());
-        for class in 1..end {
-            if class % CLASS_WORDS == 1 + OFFSET && now[class] != a.day[class] {
-                assert_eq!(now[class] >> 29, a.day[class] >> 29, "case {i}");
-                now[class] = a.day[class];
-                changed += 1;
-            }
+        for at in (1 + OFFSET..end).step_by(CLASS_WORDS) {
+            assert_eq!(now[at] >> 29, a.day[at] >> 29, "case {i}");
+            changed += usize::from(now[at] != a.day[at]);
+            now[at] = a.day[at];
         }
         assert_eq!(now, a.day, "case {i}");
     }

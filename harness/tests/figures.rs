@@ -1,8 +1,8 @@
 //! The scope's figures that are run, at the byte call; those of deposits at the call over words.
-use harness::accounts::Account;
+use harness::accounts::{opposed, Account};
 use harness::cases::{with_credit, with_offset, with_records};
 use harness::deposits::MOST_SHARES;
-use harness::fields::{account, expiry, Class, Record, Series, CALL, EQUITY, FUTURE};
+use harness::fields::{account, expiry, Class, Record, Series, CALL, FUTURE};
 use harness::reading::read_report;
 use harness::reckoner::{reckon, reckon_with, text, to_bytes, to_words, Refusal, Report};
 use harness::samples::{calls, samples, with_words, MINUS_ZERO, TOO_MANY, WRONG_KIND};
@@ -43,28 +43,12 @@ fn credits_after_their_offset() {
     assert_eq!((additional(10_000, 101), additional(9_999, 101), additional(0, 101)), (200 - 101, 200 - 100, 200));
 }
 
-/// 128 shares sold and 128 of another class of the group bought at the highest price: a debit and a credit of 6.4·10^17 at each point, the
-/// credit's product with the offset far above 64 bits.
+/// A credit whose product with the offset is far above 64 bits.
 #[test]
 fn credits_at_the_limits() {
-    let class = |number, offset| Class { number, offset, ..Class::default() };
-    let series = |i: u32| Series {
-        class_number: i / 128,
-        series_type: EQUITY,
-        serial: i % 128,
-        multiplier: 1,
-        theoretical: [500_000_000; 10],
-        ..Series::default()
-    };
-    let series: Vec<Series> = (0..256).map(series).collect();
-    let (size, none) = (10_000_000, 0);
-    let sides = |i| if i < 128 { (none, size) } else { (size, none) };
-    let record = |i| Record { series: i, long: sides(i).0, short: sides(i).1, ..Record::default() };
-    let records: Vec<Record> = (0..256).map(record).collect();
     for offset in [0, 1, 85, 8_275, 8_500, 9_999, 10_000] {
-        let a = account(&[class(0, offset), class(1, offset)], &series, &records);
         let left = 640_000_000_000_000_000 / 10_000 * i128::from(10_000 - offset);
-        assert_eq!(run(&a).expect("accepted").lines[0].amounts[3], left, "{offset}");
+        assert_eq!(run(&opposed(offset)).expect("accepted").lines[0].amounts[3], left, "{offset}");
     }
 }
 
