@@ -1,4 +1,6 @@
 // What an account's answer says: the words that it wrote, and its two numbers in the result list.
+#![tactic(auto)]
+
 ghost use Rattle.std.specs.Prelude.{◌≡◌, ◌+◌, ◌*◌, ◌^◌, ◌≤◌, ◌<◌, length};
 ghost use Rattle.numbers.specs.Put.{put};
 ghost use Rattle.model.specs.Answers.{value_of};

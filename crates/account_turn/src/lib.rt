@@ -1,5 +1,7 @@
 // One account of many, of a day file that was checked once: its report at the front of the memory still left, its two numbers in the
 // result list.
+#![tactic(auto)]
+
 ghost use Rattle.std.specs.Prelude.{◌≡◌, [], ◌+◌, ◌*◌, ◌^◌, ◌≤◌, ◌<◌, length};
 ghost use Rattle.numbers.specs.Put.{put};
 ghost use Rattle.model.specs.Answers.{value_of};

@@ -1,4 +1,6 @@
 // All accounts of a broker in one call: the day file is checked once, the reports are written end to end.
+#![tactic(auto)]
+
 ghost use Rattle.std.specs.Prelude.{◌≡◌, length};
 ghost use Rattle.model.specs.DayChecks.{day_check};
 ghost use Rattle.model.specs.ManyAccounts.{batch_of, report_start, memory_to, results_to, reports_answer, results_after, reports_after};

@@ -1,4 +1,6 @@
 // Rows 60 and 61, before every other: the list of lengths and the room for the results.
+#![tactic(auto)]
+
 ghost use Rattle.std.specs.Prelude.{◌≡◌, ◌≤◌, length};
 ghost use Rattle.model.specs.Limits.{most_accounts};
 ghost use Rattle.model.specs.ManyAccounts.{words_before, row60, row61, accounts_check};

@@ -1,4 +1,6 @@
 // The accumulator of step 5: ten running amounts, one for each point, D5 .. D1, U1 .. U5; and the limits of what it adds.
+#![tactic(auto)]
+
 ghost use Rattle.std.specs.Prelude.{◌≡◌, ℕ, ◌≤◌, ◌<◌, ltb, pos, nat_abs, get_or};
 ghost use Rattle.numbers.specs.Table.{tabulate};
 ghost use Rattle.model.specs.Limits.{price_limit, position_limit, contracts_limit, running_limit, point_count};

@@ -1,4 +1,6 @@
 // Step 6: a class's ten amounts after its offset, ten amounts added to ten, and the largest of ten.
+#![tactic(auto)]
+
 ghost use Rattle.std.specs.Prelude.{◌≡◌, ℕ, ◌*◌, ◌/◌, ◌≤◌, ◌<◌, pos, nat_abs, ◌+ℤ◌, get_or};
 ghost use Rattle.numbers.specs.Extremes.{largest as largest_of};
 ghost use Rattle.numbers.specs.Table.{tabulate};

@@ -1,4 +1,6 @@
 // The paper's number and place of a refusal, and the two numbers of an answer.
+#![tactic(auto)]
+
 ghost use Rattle.std.specs.Prelude.{◌≡◌, ◌^◌, ◌<◌};
 ghost use Rattle.model.specs.Answers.{number_of, place_of, status_of, value_of, packed as packed_of};
 

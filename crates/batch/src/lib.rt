@@ -1,4 +1,6 @@
 // The fields of a position batch: of its header and of record r.
+#![tactic(auto)]
+
 ghost use Rattle.std.specs.Prelude.{◌≡◌, ◌+◌, ◌*◌, ◌^◌, ◌≤◌, ◌<◌, length};
 ghost use Rattle.model.specs.Batch.{batch_header, record_count, record_word, dvp_size, dvp_amount, batch_words};
 ghost use Rattle.model.specs.Batch.{key as key_of, place as place_of, exercised as exercised_of, fail as fail_of, long as long_of, short as short_of};

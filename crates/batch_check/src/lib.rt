@@ -1,4 +1,6 @@
 // The checks of a batch: rows 20 to 28, each over all records or words before the next.
+#![tactic(auto)]
+
 ghost use Rattle.std.specs.Prelude.{◌≡◌};
 ghost use Rattle.model.specs.BatchChecks.{row20, row21, batch_form, batch_check};
 

@@ -1,4 +1,6 @@
 // Rows 23 to 26: each record of a batch against its series, for any day file.
+#![tactic(auto)]
+
 ghost use Rattle.std.specs.Prelude.{◌≡◌, ◌≤◌, length};
 ghost use Rattle.numbers.specs.Scan.{first_bad};
 ghost use Rattle.model.specs.Batch.{record_count, batch_words};

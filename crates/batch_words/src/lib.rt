@@ -1,4 +1,6 @@
 // Rows 22, 27 and 28: the words of every record of a batch, each row over all words before the next.
+#![tactic(auto)]
+
 ghost use Rattle.std.specs.Prelude.{◌≡◌, ◌+◌, ◌≤◌, ◌<◌, length};
 ghost use Rattle.numbers.specs.declared.Found.TheVariants.{Nothing};
 ghost use Rattle.numbers.specs.Scan.{first_bad};

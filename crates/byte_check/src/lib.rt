@@ -1,4 +1,6 @@
 // Rows 1 and 2: two files of bytes, each opened or not.
+#![tactic(auto)]
+
 ghost use Rattle.std.specs.Prelude.{◌≡◌, ◌<◌};
 ghost use Rattle.model.specs.Bytes.{bad_bytes, bytes_check};
 ghost use Rattle.model.specs.Printed.{files_check};

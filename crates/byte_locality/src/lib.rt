@@ -1,4 +1,6 @@
 // Demand 3 of the byte call: two reports with one day file, of two batches that are edits or reorderings, into `memory` and `other`; and they are demand 2's.
+#![tactic(auto)]
+
 ghost use Rattle.std.specs.Prelude.{◌≡◌, length};
 ghost use Rattle.model.specs.Bytes.{byte_answer, bytes_after};
 ghost use Rattle.byte_locality.specs.Edits.{LocalByteEdit, SameByteOrder};

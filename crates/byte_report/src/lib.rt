@@ -1,4 +1,6 @@
 // The byte call: the report of two files given as bytes, words low byte first, into a memory of bytes. It passes no deposits.
+#![tactic(auto)]
+
 ghost use Rattle.std.specs.Prelude.{◌≡◌, [], ◌*◌, ◌/◌, ◌≤◌, length, take};
 ghost use Rattle.model.specs.Bytes.{byte_answer, bytes_after, words_of, written_bytes, longest_day, longest_batch};
 ghost use Rattle.model.specs.Calls.{answer as answer_to, report as report_of};

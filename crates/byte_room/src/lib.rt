@@ -1,4 +1,6 @@
 // A memory of bytes as room for a report's words, and words written into it.
+#![tactic(auto)]
+
 ghost use Rattle.std.specs.Prelude.{◌≡◌, ◌*◌, ◌≤◌, length, take};
 ghost use Rattle.numbers.specs.Put.{put};
 ghost use Rattle.model.specs.Bytes.{bytes_of};

@@ -1,4 +1,6 @@
 // Words and bytes, low byte first, between lent memories.
+#![tactic(auto)]
+
 ghost use Rattle.std.specs.Prelude.{◌≡◌, ◌∷◌, [], ◌+◌, ◌*◌, ◌/◌, ◌≤◌, ◌<◌, length};
 ghost use Rattle.numbers.specs.Put.{put};
 ghost use Rattle.model.specs.Bytes.{words_of, bytes_of};

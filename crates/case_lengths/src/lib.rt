@@ -1,4 +1,6 @@
 // How much of its memories a committed case takes.
+#![tactic(auto)]
+
 ghost use Rattle.std.specs.Prelude.{min, ◌≡◌, get_or};
 
 use words::{index, word_at};

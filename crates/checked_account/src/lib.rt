@@ -1,4 +1,6 @@
 // One account whose day file and batch passed their own rows: the nets, row 30, then its deposits and the report.
+#![tactic(auto)]
+
 ghost use Rattle.std.specs.Prelude.{◌≡◌, length};
 ghost use Rattle.model.specs.BatchChecks.{batch_check};
 ghost use Rattle.model.specs.Calls.{answer, memory_after};

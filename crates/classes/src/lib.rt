@@ -1,2 +1,4 @@
 // Where the series of each class start; in specs, what the steps are given and sums over a class's series.
+#![tactic(auto)]
+
 pub mod starts;

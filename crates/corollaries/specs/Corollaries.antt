@@ -3,7 +3,7 @@ use Rattle.std.specs.Prelude.{◌≡◌, List, [], ℕ, ◌/◌, ◌≤◌, leng
 use Rattle.model.specs.declared.Answer.TheVariants.{Refused}
 use Rattle.model.specs.declared.Check.{Check}
 use Rattle.model.specs.declared.Verdict.TheVariants.{Passed}
-use Rattle.model.specs.Rows.{◌orElse◌}
+use Rattle.model.specs.Rows.{◌or_else◌}
 use Rattle.model.specs.Calls.{verdict, Accepted, net_after, answer, needed, memory_after}
 use Rattle.model.specs.Bytes.{words_of, bytes_check, byte_answer, bytes_after}
 use Rattle.corollaries.specs.Untouched.{refused_writes_nothing, bytes_refused_writes_nothing, bytes_length_kept}

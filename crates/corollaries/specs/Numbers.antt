@@ -7,7 +7,7 @@ use Rattle.model.specs.declared.Check.{Check}
 use Rattle.model.specs.declared.Verdict.{Verdict}
 use Rattle.model.specs.declared.Verdict.TheVariants.{Passed, Failed}
 use Rattle.model.specs.Answers.{number_of, place_of, status_of, value_of}
-use Rattle.model.specs.Rows.{◌orElse◌}
+use Rattle.model.specs.Rows.{◌or_else◌}
 use Rattle.model.specs.Calls.{verdict, answer, answer_of, room_answer, needed}
 use Rattle.model.specs.Bytes.{words_of, bytes_check, byte_answer}
 use Rattle.model.proofs.Places.{value_small, byte_value_small}

@@ -1,4 +1,6 @@
 // Deposited shares against short futures: the nets after cover, written into a lent table.
+#![tactic(auto)]
+
 ghost use Rattle.std.specs.Prelude.{◌≡◌, ◌-◌, ◌/◌, ◌<◌, length};
 ghost use Rattle.numbers.specs.Table.{tabulate};
 ghost use Rattle.model.specs.DayFile.{class_count, series_count, series_class};

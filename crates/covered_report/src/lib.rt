@@ -1,4 +1,6 @@
 // The report of an account's nets with its deposits: rows 50 and 51, the nets after cover, row 40.
+#![tactic(auto)]
+
 ghost use Rattle.std.specs.Prelude.{◌≡◌, length};
 ghost use Rattle.model.specs.Calls.{answer_of, room_answer, written};
 ghost use Rattle.model.specs.DepositChecks.{deposit_check};

@@ -1,4 +1,6 @@
 // The checks of a day file: rows 10 to 17, each over all records before the next.
+#![tactic(auto)]
+
 ghost use Rattle.std.specs.Prelude.{◌≡◌, length};
 ghost use Rattle.model.specs.DayFile.{class_count, series_count, day_words};
 ghost use Rattle.model.specs.DayChecks.{row10, row11, record_check, day_check};

@@ -1,4 +1,6 @@
 // Rows 13 and 14: the order of the classes, and their offsets by group.
+#![tactic(auto)]
+
 ghost use Rattle.std.specs.Prelude.{◌≡◌, ◌+◌, ◌≤◌, ◌<◌, length};
 ghost use Rattle.numbers.specs.Scan.{first_bad};
 ghost use Rattle.model.specs.DayFile.{class_count, series_count, class_at, day_words};

@@ -1,4 +1,6 @@
 // The fields of a day file: of its header, of class c and of series s.
+#![tactic(auto)]
+
 ghost use Rattle.std.specs.Prelude.{◌≡◌, ◌+◌, ◌*◌, ◌≤◌, ◌<◌, length};
 ghost use Rattle.model.specs.DayFile.{day_header, class_count, series_count, class_word, class_number, spot_rate, non_spot_rate, option_rate, future_rate, equity_rate, warrant_rate, rights_rate, series_word, series_key, series_type, series_class_number, class_at, series_at, series_words};
 ghost use Rattle.model.specs.DayFile.{group as group_of, underlying as underlying_of, offset as offset_of, serial as serial_of, expiry as expiry_of, multiplier as multiplier_of, strike as strike_of, closing as closing_of, adjustment as adjustment_of};

@@ -1,4 +1,6 @@
 // Rows 15 to 17: the class, the order and the type of the series.
+#![tactic(auto)]
+
 ghost use Rattle.std.specs.Prelude.{◌≡◌, ◌≤◌, length};
 ghost use Rattle.numbers.specs.Scan.{first_bad};
 ghost use Rattle.model.specs.DayFile.{class_count, series_count, series_at, day_words};

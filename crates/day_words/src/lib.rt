@@ -1,4 +1,6 @@
 // Row 12: the words of every record, classes then series.
+#![tactic(auto)]
+
 ghost use Rattle.std.specs.Prelude.{◌≡◌, ◌+◌, ◌-◌, ◌≤◌, ◌<◌, length};
 ghost use Rattle.numbers.specs.Scan.{first_bad, any_below};
 ghost use Rattle.model.specs.Words.{bad_price};

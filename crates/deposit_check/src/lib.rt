@@ -1,4 +1,6 @@
 // Rows 50 and 51: the deposits.
+#![tactic(auto)]
+
 ghost use Rattle.std.specs.Prelude.{◌≡◌, not, ◌<◌, eqb};
 ghost use Rattle.numbers.specs.declared.Found.TheVariants.{At};
 ghost use Rattle.numbers.specs.Distinct.{again};

@@ -1,4 +1,6 @@
 // The deposits' fields, the class that a deposit names, and the series that deposits cover.
+#![tactic(auto)]
+
 ghost use Rattle.std.specs.Prelude.{◌≡◌, ◌<◌, eqb};
 ghost use Rattle.model.specs.DayFile.{class_count, class_number, series_count, series_type, class_with};
 ghost use Rattle.model.specs.Deposits.{deposit_count, named_number, shares as shares_at};

@@ -1,4 +1,6 @@
 // Writing the report's words: amounts, lines and totals, each over a lent run of words.
+#![tactic(auto)]
+
 ghost use Rattle.std.specs.Prelude.{◌≡◌, ◌∷◌, ◌+◌, ◌*◌, ◌^◌, ◌≤◌, ◌<◌, nat_abs, length};
 ghost use Rattle.numbers.specs.Put.{put};
 ghost use Rattle.model.specs.Words.{word, amount_words};

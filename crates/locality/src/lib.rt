@@ -1,5 +1,7 @@
 // Demand 3 of the call over words: two reports with one day file, of two batches and deposits that are edits or reorderings, into `memory`
 // and `other`; and they are demand 2's.
+#![tactic(auto)]
+
 ghost use Rattle.std.specs.Prelude.{◌≡◌, length};
 ghost use Rattle.model.specs.Calls.{answer, memory_after};
 ghost use Rattle.locality.specs.Edits.{LocalEdit, SameOrder};

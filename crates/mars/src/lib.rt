@@ -1,5 +1,7 @@
 // The C entries: the report of two files given as bytes; of files and deposits given as words; the reports of all accounts of a broker; a
 // printed text read back.
+#![tactic(auto)]
+
 ghost use Rattle.std.specs.Prelude.{◌≡◌, ◌+◌, ◌*◌, ◌^◌, length};
 ghost use Rattle.model.specs.Answers.{packed};
 ghost use Rattle.model.specs.Bytes.{byte_answer, bytes_after};

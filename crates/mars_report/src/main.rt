@@ -1,4 +1,6 @@
 // The report program: prints the report, or the refusal, of day.w32 and pos.w32 in its folder.
+#![tactic(auto)]
+
 use byte_check::{LONGEST_BATCH, LONGEST_DAY};
 use libc::STDOUT_FILENO;
 use text::lines::LONGEST_TEXT;

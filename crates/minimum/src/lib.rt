@@ -1,4 +1,6 @@
 // Step 7: the minimum of a class in a book.
+#![tactic(auto)]
+
 ghost use Rattle.std.specs.Prelude.{◌≡◌, ◌+◌, ◌*◌, ◌≤◌, ◌<◌, pos, nat_abs, ◌*ℤ◌, length};
 ghost use Rattle.numbers.specs.Extremes.{abs_z};
 ghost use Rattle.numbers.specs.Table.{tabulate};

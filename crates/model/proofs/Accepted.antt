@@ -7,6 +7,12 @@ use Rattle.numbers.specs.declared.Found.{Found}
 use Rattle.numbers.specs.declared.Found.TheVariants.{At, Nothing}
 use Rattle.numbers.specs.Scan.{first_bad, first_clear, first-none}
 use Rattle.model.specs.declared.Check.{Check}
+use Rattle.model.specs.declared.Check.TheVariants.{DayHeader, DayLength, BatchHeader, BatchLength, Netting}
+use Rattle.model.specs.declared.DayHeaderFault.TheVariants.{BadDayHeader}
+use Rattle.model.specs.declared.DayLengthFault.TheVariants.{BadDayLength}
+use Rattle.model.specs.declared.BatchHeaderFault.TheVariants.{BadBatchHeader}
+use Rattle.model.specs.declared.BatchLengthFault.TheVariants.{BadBatchLength}
+use Rattle.model.specs.declared.NettingFault.TheVariants.{BadDeposit}
 use Rattle.model.specs.declared.Verdict.TheVariants.{Passed}
 use Rattle.model.specs.Rows.{plain_row, found_row, record_row}
 use Rattle.model.specs.DayFile.{class_count, series_count}
@@ -76,8 +82,8 @@ day_checked d e =
     let classes = tried-passed _ records.1.0 in
     let series = tried-passed _ records.1.1.0 in
     record {
-      at10 = plain_clear _ _ file.0;
-      at11 = plain_clear _ _ file.1.0;
+      at10 = plain_clear (DayHeader BadDayHeader) _ file.0;
+      at11 = plain_clear (DayLength BadDayLength) _ file.1.0;
       at12 = clear _ _ _ records.0;
       at13 = clear _ _ _ classes.0;
       at14 = clear _ _ _ classes.1.0;
@@ -91,11 +97,11 @@ module _ (d x : List ℕ) where
   unfolding deposit_check
   deposit_checked e =
       let rows = tried-passed _ e in
-      record { even = plain_clear _ _ rows.0; at50 = clear _ _ _ rows.1.0; at51 = clear _ _ _ rows.1.1.0 }
+      record { even = plain_clear (Netting BadDeposit) _ rows.0; at50 = clear _ _ _ rows.1.0; at51 = clear _ _ _ rows.1.1.0 }
 
   pub deposits_pass : DepositRows d x → deposit_check d x ≡ Passed
   unfolding deposit_check
-  deposits_pass r = tried_pass _ (plain_back _ _ r.even then clear_back _ _ _ r.at50 then clear_back _ _ _ r.at51 then tt)
+  deposits_pass r = tried_pass _ (plain_back (Netting BadDeposit) _ r.even then clear_back _ _ _ r.at50 then clear_back _ _ _ r.at51 then tt)
 
 module _ (d b : List ℕ) where
   pub batch_checked : batch_check d b ≡ Passed → BatchChecks d b
@@ -106,8 +112,8 @@ module _ (d b : List ℕ) where
       let words = tried-passed _ form.1.1.0 in
       let positions = tried-passed _ batch.1.0 in
       record {
-        at20 = plain_clear _ _ form.0;
-        at21 = plain_clear _ _ form.1.0;
+        at20 = plain_clear (BatchHeader BadBatchHeader) _ form.0;
+        at21 = plain_clear (BatchLength BadBatchLength) _ form.1.0;
         at22 = clear _ _ _ words.0;
         at27 = clear _ _ _ words.1.0;
         at28 = clear _ _ _ words.1.1.0;
@@ -149,8 +155,8 @@ module _ (d b x : List ℕ) where
       all_passed p
       (tried_pass _
       (tried_pass _
-      (plain_back _ _ r.checks.at20
-      then plain_back _ _ r.checks.at21
+      (plain_back (BatchHeader BadBatchHeader) _ r.checks.at20
+      then plain_back (BatchLength BadBatchLength) _ r.checks.at21
       then tried_pass _ (clear_back _ _ _ r.checks.at22 then clear_back _ _ _ r.checks.at27 then clear_back _ _ _ r.checks.at28 then tt)
       then tt)
       then tried_pass _ (clear_back _ _ _ r.checks.at23 then clear_back _ _ _ r.checks.at24 then clear_back _ _ _ r.checks.at25 then clear_back _ _ _ r.checks.at26 then tt)

@@ -20,6 +20,8 @@ use Rattle.model.specs.BatchChecks.{record_limit, dvp_out_of_range, out_of_range
 use Rattle.model.specs.Netting.{net, row30}
 use Rattle.numbers.specs.Tests.{or_left, or_right}
 use Rattle.model.specs.declared.Verdict.TheVariants.{Passed}
+use Rattle.model.specs.declared.Check.TheVariants.{BatchLength}
+use Rattle.model.specs.declared.BatchLengthFault.TheVariants.{BadBatchLength}
 use Rattle.model.proofs.Verdicts.{tried-passed}
 use Rattle.model.proofs.Accepted.{plain_clear, DayRows, BatchChecks, BatchRows}
 use Rattle.model.proofs.BatchWords.{words_clear}
@@ -107,7 +109,7 @@ row21-length b e = eqb-true (length b) (batch_words (record_count b)) (not-false
 -- a batch that passes the rows that need no day file has the length of its records
 pub form_length : (b : List ℕ) → batch_form b ≡ Passed → length b ≡ batch_words (record_count b)
 unfolding batch_form
-form_length b e = row21-length b (plain_clear _ _ (tried-passed _ e).1.0)
+form_length b e = row21-length b (plain_clear (BatchLength BadBatchLength) _ (tried-passed _ e).1.0)
 
 module _ (d b : List ℕ) (r : BatchChecks d b) where
   pub few_records : record_count b ≤ most_records

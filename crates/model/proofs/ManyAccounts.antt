@@ -14,6 +14,8 @@ use Rattle.numbers.specs.Put.{put, put-length}
 use Rattle.numbers.specs.Tests.{or_left, or_right}
 use Rattle.model.specs.declared.Answer.TheVariants.{Report, Refused}
 use Rattle.model.specs.declared.Check.{Check}
+use Rattle.model.specs.declared.Check.TheVariants.{Accounts}
+use Rattle.model.specs.declared.AccountsFault.TheVariants.{BadLengths, ShortResults}
 use Rattle.model.specs.declared.Verdict.TheVariants.{Passed, Failed}
 use Rattle.model.specs.Limits.{most_accounts}
 use Rattle.model.specs.Report.{longest_report}
@@ -34,12 +36,12 @@ pub accounts_checked : (bs ns : List ℕ) (entries : ℕ) → accounts_check bs 
 unfolding accounts_check row60 row61
 accounts_checked bs ns entries e =
     let rows = tried-passed _ e in
-    let at60 = plain_clear _ _ rows.0 in
+    let at60 = plain_clear (Accounts BadLengths) _ rows.0 in
     let s = words_before ns (length ns) in
     record {
       few = ltb-false most_accounts (length ns) (or_left (ltb most_accounts (length ns)) (not (eqb s (length bs))) at60);
       sum = eqb-true s (length bs) (not-false (eqb s (length bs)) (or_right (ltb most_accounts (length ns)) (not (eqb s (length bs))) at60));
-      list = ltb-false entries (result_numbers * length ns) (plain_clear _ _ rows.1.0);
+      list = ltb-false entries (result_numbers * length ns) (plain_clear (Accounts ShortResults) _ rows.1.0);
     }
 
 -- ---- where batches start

@@ -1,4 +1,5 @@
 // The answers of the margin report. What each means, with its number, is in specs/Answers.antt.
+#![tactic(auto)]
 
 // The answer of a call: the words written, or the check that refused.
 #[derive(Drop)]

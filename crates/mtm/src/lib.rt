@@ -1,4 +1,6 @@
 // Step 3 of a class in a book: mark-to-market of its securities.
+#![tactic(auto)]
+
 ghost use Rattle.std.specs.Prelude.{◌≡◌, cond, ◌<◌, pos};
 ghost use Rattle.model.specs.DayFile.{series_count, series_type, is_security};
 ghost use Rattle.model.specs.Steps.Mtm.{mtm_of, mtm as mtm_sum};

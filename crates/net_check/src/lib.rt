@@ -1,4 +1,6 @@
 // Row 30: a position whose net, times the multiplier, is above its limit.
+#![tactic(auto)]
+
 ghost use Rattle.std.specs.Prelude.{◌≡◌, ◌<◌};
 ghost use Rattle.numbers.specs.Scan.{first_bad};
 ghost use Rattle.numbers.specs.Table.{tabulate};

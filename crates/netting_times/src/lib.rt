@@ -1,4 +1,6 @@
 // For the benchmark: step 1 alone, again and again, as a call for a C host.
+#![tactic(auto)]
+
 ghost use Rattle.std.specs.Prelude.{◌≡◌, cond, pos, length};
 ghost use Rattle.numbers.specs.Table.{tabulate};
 ghost use Rattle.model.specs.Netting.{net as net_of, dvp as dvp_of, position_count};

@@ -1,4 +1,6 @@
 // Rows 23 to 26 of one record of a batch, for any day file.
+#![tactic(auto)]
+
 ghost use Rattle.std.specs.Prelude.{◌≡◌, ◌+◌, ◌≤◌, length};
 ghost use Rattle.model.specs.DayFile.{series_type};
 ghost use Rattle.model.specs.Batch.{place as place_of, batch_words};

@@ -1,4 +1,6 @@
 // The amounts of positions, from a table by position key.
+#![tactic(auto)]
+
 ghost use Rattle.std.specs.Prelude.{◌≡◌, ◌*◌, ◌<◌, pos, get_or};
 ghost use Rattle.model.specs.Netting.{position as position_of, places};
 

@@ -1,4 +1,6 @@
 // Step 4 of a class in a book: premium of its options.
+#![tactic(auto)]
+
 ghost use Rattle.std.specs.Prelude.{◌≡◌, cond, ◌<◌, pos};
 ghost use Rattle.model.specs.DayFile.{class_count, series_count, series_type, is_option};
 ghost use Rattle.model.specs.Steps.Premium.{in_the_money, premium_of, premium as premium_sum};

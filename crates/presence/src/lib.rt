@@ -1,4 +1,6 @@
 // Step 9: which groups have a line in a book.
+#![tactic(auto)]
+
 ghost use Rattle.std.specs.Prelude.{◌≡◌, ◌+◌, ◌*◌, ◌≤◌, ◌<◌};
 ghost use Rattle.numbers.specs.Scan.{any_below};
 ghost use Rattle.numbers.specs.Table.{tabulate};

@@ -1,4 +1,6 @@
 // The prices of a record at the ten points, and those that an open position has there.
+#![tactic(auto)]
+
 ghost use Rattle.std.specs.Prelude.{◌≡◌, ◌+◌, ◌*◌, max, ◌≤◌, ◌<◌, length, get_or, set};
 ghost use Rattle.numbers.specs.Table.{tabulate};
 ghost use Rattle.model.specs.Words.{payload as payload_of};

@@ -1,4 +1,6 @@
 // Runs the call over words on the accounts of cases.w32 and prints each answer; what must come out is the reckoner's.
+#![tactic(auto)]
+
 ghost use Rattle.std.specs.Prelude.{◌*◌, ◌≤◌, ◌≡◌, [], ◌++◌, length, take, drop};
 ghost use Rattle.io.specs.Counts.{IsPrefixLen};
 ghost use Rattle.numbers.specs.Put.{put};

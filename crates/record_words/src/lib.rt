@@ -1,4 +1,6 @@
 // Whether the words of a record are right, rows 22, 27 and 28 at once: a batch of such records is passed over once.
+#![tactic(auto)]
+
 ghost use Rattle.std.specs.Prelude.{◌≡◌, ◌+◌, ◌≤◌, ◌<◌, length};
 ghost use Rattle.numbers.specs.Scan.{first_bad, any_below};
 ghost use Rattle.model.specs.Batch.{record_words, batch_words};

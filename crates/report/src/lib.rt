@@ -1,4 +1,6 @@
 // The call over words: the report of a day file, a batch and deposits, written into a lent memory; and one account of a checked day file.
+#![tactic(auto)]
+
 ghost use Rattle.std.specs.Prelude.{◌≡◌, length};
 ghost use Rattle.model.specs.Calls.{answer, memory_after};
 ghost use Rattle.model.specs.DayChecks.{day_check};

@@ -1,4 +1,6 @@
 // The head of a report: its line count and the two maps.
+#![tactic(auto)]
+
 ghost use Rattle.std.specs.Prelude.{◌≡◌, ◌∷◌, [], ◌+◌, ◌^◌, ◌≤◌, ◌<◌, length};
 ghost use Rattle.std.specs.Int.Count.{ones};
 ghost use Rattle.numbers.specs.Put.{put};

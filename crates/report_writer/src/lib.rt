@@ -1,5 +1,7 @@
 // The whole report of an accepted account: header, maps, lines and totals; and row 40. Which groups have a line goes by `nets`, the
 // amounts by `after`.
+#![tactic(auto)]
+
 ghost use Rattle.std.specs.Prelude.{◌≡◌, ◌+◌, ◌*◌, ◌≤◌, ◌<◌, length};
 ghost use Rattle.std.specs.Int.Count.{ones};
 ghost use Rattle.numbers.specs.Put.{put};

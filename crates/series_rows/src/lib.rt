@@ -1,4 +1,6 @@
 // Rows 15 to 17 of one series: its class, its order and its type.
+#![tactic(auto)]
+
 ghost use Rattle.std.specs.Prelude.{◌≡◌, ◌+◌, ◌≤◌, length};
 ghost use Rattle.model.specs.DayFile.{class_count, class_at, series_at};
 ghost use Rattle.model.specs.DayChecks.{row15, row16, row17};

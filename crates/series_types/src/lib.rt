@@ -1,4 +1,6 @@
 // The types of a series: no other place has their numbers.
+#![tactic(auto)]
+
 ghost use Rattle.std.specs.Prelude.{◌≡◌};
 ghost use Rattle.model.specs.DayFile.{is_future, is_call, is_put, is_option, is_equity, is_warrant, is_rights, is_security, is_derivative};
 ghost use Rattle.model.specs.Steps.Cover.{is_coverable};

@@ -1,4 +1,6 @@
 // The fields of a text, written: numbers and amounts. Each function writes from place `at` on and returns the place behind.
+#![tactic(auto)]
+
 ghost use Rattle.std.specs.Prelude.{◌≡◌, ◌∷◌, [], ◌+◌, ◌*◌, ◌^◌, ◌≤◌, ◌<◌, nat_abs, length};
 ghost use Rattle.numbers.specs.Put.{put};
 ghost use Rattle.model.specs.Reading.{amount_in};

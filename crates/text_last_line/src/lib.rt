@@ -1,4 +1,6 @@
 // The last line of a text, read behind its head: a refusal's number and place, or a report's totals.
+#![tactic(auto)]
+
 ghost use Rattle.std.specs.Prelude.{◌≡◌};
 ghost use Rattle.model.specs.TextReading.{ended, refusal_of, place_read, refusal_read, account_read, fail_read, totals_read};
 

@@ -1,4 +1,6 @@
 // The lines of a report's text. Each function writes from place `at` on and returns the place behind.
+#![tactic(auto)]
+
 ghost use Rattle.std.specs.Prelude.{◌≡◌, ◌+◌, ◌*◌, ◌≤◌, length};
 ghost use Rattle.numbers.specs.Put.{put};
 ghost use Rattle.model.specs.Limits.{most_lines};

@@ -1,4 +1,6 @@
 // The text output library, read back: what a printed text says. Each function reads at the front of the text that it is given.
+#![tactic(auto)]
+
 ghost use Rattle.std.specs.Prelude.{◌≡◌};
 ghost use Rattle.model.specs.TextReading.{last_read, lines_read, count_read, report_read, text_says};
 

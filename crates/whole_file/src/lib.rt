@@ -1,4 +1,6 @@
 // Whether a file was opened and read whole.
+#![tactic(auto)]
+
 ghost use Rattle.std.specs.Prelude.{true, false, ◌≡◌, pos};
 ghost use Rattle.std.specs.Int.Signed.{lt_z};
 

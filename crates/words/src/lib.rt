@@ -1,4 +1,6 @@
 // Words: kind, payload, and an amount as three words.
+#![tactic(auto)]
+
 ghost use Rattle.std.specs.Prelude.{◌≡◌, ◌^◌, ◌≤◌, ◌<◌, nat_abs, get_or};
 ghost use Rattle.model.specs.Words.{kind as kind_of, payload as payload_of, bits as bits_of, word as word_of, bad_word, magnitude as magnitude_of, negative as negative_of, amount as amount_of, high_word, middle_word, low_word, sign_bit};
 

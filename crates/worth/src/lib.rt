@@ -1,4 +1,6 @@
 // What a position is worth: net × multiplier × price.
+#![tactic(auto)]
+
 ghost use Rattle.std.specs.Prelude.{◌≡◌, ◌+◌, ◌*◌, ◌≤◌, ◌<◌, ◌^◌, pos, nat_abs, ◌*ℤ◌, length};
 ghost use Rattle.model.specs.DayFile.{multiplier, series_at};
 ghost use Rattle.model.specs.Steps.Classes.{worth as worth_of, signed_by_type};

@@ -1,0 +1,14 @@
+use Rattle.std.proofs.Common.{◌-◌, ◌≡◌, ℕ, ◌≤◌, ◌<◌, ltb, pos, nat_abs, get_or, ◌+◌, ◌*◌, length, ℤ, ◌+ℤ◌, ◌-ℤ◌, ◌*ℤ◌, ◌≤ℤ◌, ◌<ℤ◌, FitsSigned, to_z, of_z}
+use Rattle.numbers.specs.Table.{tabulate}
+use Rattle.model.specs.Limits.{price_limit, position_limit, contracts_limit, running_limit, point_count}
+use Rattle.accumulator.specs.Added.{change_amount, added}
+use Rattle.accumulator.proofs.Points.add.Given as goal
+use Rattle.accumulator.specs.Added.{added_at}
+use Rattle.numbers.specs.Filling.{filled}
+
+abbrev pub invariant-loop-k : goal.invariant-loop-k
+invariant-loop-k l =
+    (l.k ≤ point_count) × (l.next.at ≡ filled point_count (added_at l.initial.next.at l.p.contracts l.p.base l.p.prices) (λ i. get_or l.initial.next.at i (pos 0)) l.k)
+
+abbrev pub decreases-loop-k : goal.decreases-loop-k
+decreases-loop-k l = point_count - l.k

@@ -1,0 +1,11 @@
+use Rattle.std.proofs.Common.{◌-◌, ◌≡◌, ◌∷◌, [], ◌+◌, ◌*◌, ◌/◌, ◌≤◌, ◌<◌, length, ℕ, take}
+use Rattle.numbers.specs.Put.{put}
+use Rattle.model.specs.Bytes.{words_of, bytes_of}
+use Rattle.byte_words.specs.Words.{word_at}
+use Rattle.byte_words.proofs.decode.Given as goal
+
+abbrev pub invariant-loop-i : goal.invariant-loop-i
+invariant-loop-i l = (l.i ≤ l.n) × (l.words ≡ put 0 (take l.i (words_of l.bytes)) l.initial.words)
+
+abbrev pub decreases-loop-i : goal.decreases-loop-i
+decreases-loop-i l = l.n - l.i
