@@ -10,7 +10,7 @@ ghost use Rattle.spread.specs.Sides.{future_short, future_long};
 use positions::position_amount;
 
 // The two sides of some futures: contracts net short and net long.
-#[derive(Drop)]
+#[derive(Clone, Copy)]
 pub struct Sides {
     pub short: i64,
     pub long: i64,

@@ -1,0 +1,60 @@
+use Rattle.std.proofs.Common.{rules, ◌≡◌, ◌<◌, ℕ, ◌+◌, ◌-◌, ◌*◌, ◌≤◌, length, ◌/◌, ◌%◌, Bool, true, false, nat_eq, nat_lt, List, [], ◌∷◌, ◌++◌, slice_index_or, slice_set, bit_and, bit_or, Fits, w8, w32, w64, Bor, MutBor, ℤ, pos, ◌+ℤ◌, ◌-ℤ◌, ◌*ℤ◌, ◌≤ℤ◌, ◌<ℤ◌, FitsSigned, to_z, of_z, arith, get_or, ◌^◌, nat_abs, ap, ◌∙◌, ltb, mul-le-mul}
+use Rattle.numbers.specs.Scan.{first_bad}
+use Rattle.numbers.specs.Table.{tabulate}
+use Rattle.model.specs.Batch.{record_count}
+use Rattle.model.specs.Netting.{net as net_of}
+use Rattle.model.specs.Netting.{position_count, row30, netting_check}
+use Rattle.netting.specs.Limits.{Limited}
+use Rattle.net_check.specs.Sizes.{Placed}
+use Rattle.net_check.proofs.too_large.Goals as goal
+use Rattle.model.specs.Batch.{key}
+use Rattle.model.specs.Batch.{place}
+use Rattle.model.specs.DayFile.{multiplier}
+use Rattle.model.specs.DayFile.{series_word}
+use Rattle.model.specs.Limits.{position_limit}
+use Rattle.model.specs.Netting.{net}
+use Rattle.model.specs.Netting.{places}
+use Rattle.net_check.specs.Sizes.{net_limit_lem}
+use Rattle.net_check.specs.Sizes.{net_read}
+use Rattle.numbers.specs.Table.{length-tabulate}
+
+few : (w : ℕ) → w % 2 ^ 29 ≤ 536870912
+few w = omega arith
+
+pub bounds-nets-k : goal.bounds-nets-k
+bounds-nets-k c =
+    let b = c.args.batch.now in
+    omega (arith, c.key-k.ensures, ap length c.requires.nets_value, length-tabulate position_count (net (b)))
+
+pub size-contracts-requires : goal.size-contracts-requires
+size-contracts-requires c =
+    let b = c.args.batch.now in
+    let r = c.args.r in
+    let entry : to_z w64 (of_z w64 (get_or c.args.nets.now c.key-k.result (pos 0))) ≡ net b (key b r) = net_read b c.args.nets.now c.key-k.result r c.requires.limited c.requires.nets_value c.key-k.ensures in
+    rw (entry) (omega (arith, net_limit_lem (b) c.requires.limited (key (b) (r))))
+
+pub overflow_mul-contracts : goal.overflow_mul-contracts
+overflow_mul-contracts c =
+    let d = c.args.day.now in
+    let b = c.args.batch.now in
+    let r = c.args.r in
+    let entry : to_z w64 (of_z w64 (get_or c.args.nets.now c.key-k.result (pos 0))) ≡ net b (key b r) = net_read b c.args.nets.now c.key-k.result r c.requires.limited c.requires.nets_value c.key-k.ensures in
+    let size_is : c.size-contracts.result ≡ nat_abs (net (b) (key (b) (r))) = c.size-contracts.ensures.0 ∙ ap nat_abs (entry) in
+    let placed : c.key-k.result % places ≡ place b r = omega (arith, c.key-k.ensures) in
+    let wide_is : c.wide-per_contract.result ≡ multiplier (d) (place (b) (r)) = c.wide-per_contract.ensures ∙ c.multiplier.ensures ∙ ap (multiplier (d)) (placed) in
+    let h = mul-le-mul (net_limit_lem (b) c.requires.limited (key (b) (r))) (few (series_word (d) (place (b) (r)) 1)) in
+    let e : c.size-contracts.result * c.wide-per_contract.result ≡ nat_abs (net (b) (key (b) (r))) * multiplier (d) (place (b) (r)) = λ i. size_is i * wide_is i in
+    record { fits = omega (arith, h, e) }
+
+pub returns : goal.returns
+unfolding row30
+returns c =
+    let b = c.args.batch.now in
+    let r = c.args.r in
+    let entry : to_z w64 (of_z w64 (get_or c.args.nets.now c.key-k.result (pos 0))) ≡ net b (key b r) = net_read b c.args.nets.now c.key-k.result r c.requires.limited c.requires.nets_value c.key-k.ensures in
+    let size_is : c.size-contracts.result ≡ nat_abs (net (b) (key (b) (r))) = c.size-contracts.ensures.0 ∙ ap nat_abs (entry) in
+    let d = c.args.day.now in
+    let placed : c.key-k.result % places ≡ place b r = omega (arith, c.key-k.ensures) in
+    let wide_is : c.wide-per_contract.result ≡ multiplier (d) (place (b) (r)) = c.wide-per_contract.ensures ∙ c.multiplier.ensures ∙ ap (multiplier (d)) (placed) in
+    c.position_too_large.ensures ∙ (λ i. ltb position_limit (size_is i * wide_is i))
+
