@@ -97,7 +97,12 @@ fn run_next<R: Read>(rt: &impl Print, file: &mut Option<R>, i: u32) -> io::Resul
     let mut out = [0u8; LONGEST_TEXT];
     read_words(file, 3, &mut bytes, &mut lengths);
     read_words(file, at_most(lengths[0], DAY_ROOM), &mut bytes, &mut day);
-    read_words(file, at_most(lengths[1], BATCH_ROOM), &mut bytes, &mut batch);
+    read_words(
+        file,
+        at_most(lengths[1], BATCH_ROOM),
+        &mut bytes,
+        &mut batch,
+    );
     print_fronts(rt, i, &lengths, &day, &batch, &mut memory, &mut out)
 }
 
