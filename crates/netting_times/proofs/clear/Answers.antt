@@ -3,7 +3,6 @@ use Rattle.numbers.specs.Filling.{filled_none, filled_more, tabulate-get_or}
 use Rattle.model.specs.Netting.{position_count}
 use Rattle.netting_times.proofs.clear.Goals as goal
 
-
 pub loop-p-init : goal.loop-p-init
 loop-p-init c =
     let l = c.args.table.now in
@@ -15,5 +14,5 @@ loop-p-preserved c =
       search rules,
       length-set l.table l.p (pos 0) ∙ l.invariant.1,
       ap (λ (t : List ℤ). set t l.p (pos 0)) l.invariant.2
-      ∙ filled_more position_count (λ i. pos 0) (λ i. get_or c.args.table.now i (pos 0)) l.p (search rules),
+          ∙ filled_more position_count (λ i. pos 0) (λ i. get_or c.args.table.now i (pos 0)) l.p (search rules),
     )
