@@ -6,7 +6,7 @@ cd "$(dirname "$0")"
 seconds=${1:-60}
 library=../target/staticlib/libmars.a
 out=../target/fuzz
-[ -f "$library" ] || { echo "missing target/staticlib/libmars.a: run 'rt staticlib mars'" >&2; exit 2; }
+[ -f "$library" ] || { echo "missing target/staticlib/libmars.a: run host/library.sh" >&2; exit 2; }
 mkdir -p "$out/corpus" "$out/found"
 bytes() { sed -n "s/^#define MARS_$1_BYTES \([0-9]*\).*/\1/p" ../host/mars.h; }
 longest=$(($(bytes DAY) + $(bytes BATCH) + 4 * 130 + 64))

@@ -5,7 +5,7 @@ set -eu
 cd "$(dirname "$0")"
 library=../target/staticlib/libmars.a
 out=../target/host
-[ -f "$library" ] || { echo "missing target/staticlib/libmars.a: run 'rt staticlib mars'" >&2; exit 2; }
+[ -f "$library" ] || { echo "missing target/staticlib/libmars.a: run host/library.sh" >&2; exit 2; }
 mkdir -p "$out"
 strict="-std=c11 -Wall -Wextra -Werror -O2"
 cc $strict host.c "$library" -o "$out/host"

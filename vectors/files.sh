@@ -1,9 +1,10 @@
 #!/bin/sh
-# Runs the report program on files that are missing, are folders, fail when read, are ragged, or are too long by a word.
+# Runs the report program on files that are missing, are folders, fail when read, are ragged, or are too long: by a byte, a word, or
+# without end.
 set -eu
 cd "$(dirname "$0")/.."
-program=$PWD/target/bin/mars_report
-[ -x "$program" ] || { echo "missing target/bin/mars_report: run 'rt check mars_report'" >&2; exit 2; }
+program=$PWD/crates/mars_report/out/mars_report
+[ -x "$program" ] || { echo "missing crates/mars_report/out/mars_report: run 'rt run' in crates/mars_report" >&2; exit 2; }
 good=$PWD/samples/share
 work=$(mktemp -d)
 trap 'rm -rf "$work"' EXIT
@@ -38,10 +39,18 @@ printf x >>"$work/day.w32"
 check "a ragged day file" "REFUSED 1 0"
 printf x >>"$work/pos.w32"
 check "a ragged batch" "REFUSED 2 0"
+head -c $((day + 1)) /dev/zero >"$work/day.w32"
+check "a day file of a byte more than the longest" "REFUSED 1 0"
+ln -sf /dev/zero "$work/day.w32"
+check "a day file without end" "REFUSED 1 0"
 head -c $((day + 4)) /dev/zero >"$work/day.w32"
 check "a day file of a word more than the longest" "REFUSED 1 0"
 head -c "$day" /dev/zero >"$work/day.w32"
 check "a day file as long as the longest" "REFUSED 10 0"
+head -c $((batch + 1)) /dev/zero >"$work/pos.w32"
+check "a batch of a byte more than the longest" "REFUSED 2 0"
+ln -sf /dev/zero "$work/pos.w32"
+check "a batch without end" "REFUSED 2 0"
 head -c $((batch + 4)) /dev/zero >"$work/pos.w32"
 check "a batch of a word more than the longest" "REFUSED 2 0"
 head -c "$batch" /dev/zero >"$work/pos.w32"

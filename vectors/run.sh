@@ -4,8 +4,8 @@
 set -eu
 cd "$(dirname "$0")"
 cases=$(cat count)
-program=$(cd .. && pwd)/target/bin/mars_report
-[ -x "$program" ] || { echo "missing target/bin/mars_report: run 'rt check mars_report'" >&2; exit 2; }
+program=$(cd .. && pwd)/crates/mars_report/out/mars_report
+[ -x "$program" ] || { echo "missing crates/mars_report/out/mars_report: run 'rt run' in crates/mars_report" >&2; exit 2; }
 agreed=0
 failed=0
 for case in */; do

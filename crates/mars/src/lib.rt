@@ -1,5 +1,5 @@
-// The C entries: the report of two files given as bytes; of files and deposits given as words; the reports of all accounts of a broker; a
-// printed text read back.
+// What the C entries answer: the report of two files given as bytes; of files and deposits given as words; the reports of all accounts of
+// a broker; a printed text read back.
 #![tactic(auto)]
 
 ghost use Rattle.std.specs.Prelude.{◌≡◌, ◌+◌, ◌*◌, ◌^◌, length};
@@ -15,8 +15,7 @@ use model::TextSays;
 use text_reading::read_text;
 
 // Number × 2^32 + value: 0 and the report's length in words, or the refusal's number and place.
-#[unsafe(no_mangle)]
-pub extern "C" fn mars_report(day: &[u8], batch: &[u8], report: &mut [u8]) -> u64
+pub fn mars_report(day: &[u8], batch: &[u8], report: &mut [u8]) -> u64
     ensures result { result ≡ packed (byte_answer day.now batch.now (length report.old)) }
     ensures report { report.new ≡ bytes_after day.now batch.now report.old }
 {
@@ -24,13 +23,7 @@ pub extern "C" fn mars_report(day: &[u8], batch: &[u8], report: &mut [u8]) -> u6
 }
 
 // The same of files of words, with deposits.
-#[unsafe(no_mangle)]
-pub extern "C" fn mars_report_words(
-    day: &[u32],
-    batch: &[u32],
-    deposits: &[u32],
-    report: &mut [u32],
-) -> u64
+pub fn mars_report_words(day: &[u32], batch: &[u32], deposits: &[u32], report: &mut [u32]) -> u64
     ensures result { result ≡ packed (answer day.now batch.now deposits.now (length report.old)) }
     ensures report { report.new ≡ memory_after day.now batch.now deposits.now report.old }
 {
@@ -38,8 +31,7 @@ pub extern "C" fn mars_report_words(
 }
 
 // The same of all accounts of a broker: 0 and the words written in all, or the number and place of row 60 or 61.
-#[unsafe(no_mangle)]
-pub extern "C" fn mars_reports(
+pub fn mars_reports(
     day: &[u32],
     batches: &[u32],
     lengths: &[u32],
@@ -55,13 +47,7 @@ pub extern "C" fn mars_reports(
 
 // Number × 2^32 + value: 0 and the line count of a printed report, whose totals are stored, a refusal's number and place, or
 // 2^32 − 1 and 0.
-#[unsafe(no_mangle)]
-pub extern "C" fn mars_read_text(
-    text: &[u8],
-    ordinary: &mut i64,
-    fail: &mut i64,
-    account: &mut i64,
-) -> u64
+pub fn mars_read_text(text: &[u8], ordinary: &mut i64, fail: &mut i64, account: &mut i64) -> u64
     ensures result { result ≡ text_number (text_says text.now) * 2 ^ 32 + text_value (text_says text.now) }
     ensures ordinary { ordinary.new ≡ total_after (λ t. t.ordinary) (text_says text.now) ordinary.old }
     ensures fail { fail.new ≡ total_after (λ t. t.fail) (text_says text.now) fail.old }

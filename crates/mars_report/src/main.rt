@@ -2,25 +2,27 @@
 #![tactic(auto)]
 
 use byte_check::{LONGEST_BATCH, LONGEST_DAY};
-use libc::STDOUT_FILENO;
+use std::fs::File;
+use std::io;
+use std::io::Write;
 use text::lines::LONGEST_TEXT;
-use whole_file::was_read;
+use whole_file::{read_full, was_read};
 
-fn main() {
+fn main(rt: HostRuntime) -> io::Result<()> {
     // Each buffer holds one word more than the longest form, so that a longer file is seen.
     let mut day = [0u8; 4 * (LONGEST_DAY + 1)];
     let mut batch = [0u8; 4 * (LONGEST_BATCH + 1)];
     let mut out = [0u8; LONGEST_TEXT];
-    let day_fd = os::open_read(b"day.w32");
-    let batch_fd = os::open_read(b"pos.w32");
-    let days = io::read_full(day_fd, &mut day);
-    let positions = io::read_full(batch_fd, &mut batch);
+    let mut day_file = File::open(&rt, "day.w32").ok();
+    let mut batch_file = File::open(&rt, "pos.w32").ok();
+    let days = read_full(&mut day_file, &mut day);
+    let positions = read_full(&mut batch_file, &mut batch);
     let n = program::print_files(
-        was_read(day_fd, days == day.len()),
+        was_read(&mut day_file, days == day.len()),
         &day[..days],
-        was_read(batch_fd, positions == batch.len()),
+        was_read(&mut batch_file, positions == batch.len()),
         &batch[..positions],
         &mut out,
     );
-    io::write_all(STDOUT_FILENO, &out[..n]);
+    rt.stdout().write_all(&out[..n])
 }

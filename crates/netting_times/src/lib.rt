@@ -1,4 +1,4 @@
-// For the benchmark: step 1 alone, again and again, as a call for a C host.
+// For the benchmark: step 1 alone, again and again, as a call.
 #![tactic(auto)]
 
 ghost use Rattle.std.specs.Prelude.{◌≡◌, cond, pos, length};
@@ -60,8 +60,7 @@ fn can_net(day: &[u32], batch: &[u32], n: usize, m: usize) -> bool
 }
 
 // 1 and both tables netted 1 + times times; or 0 and both as they were.
-#[unsafe(no_mangle)]
-pub extern "C" fn mars_net_times(
+pub fn mars_net_times(
     day: &[u32],
     batch: &[u32],
     nets: &mut [i64],

@@ -14,8 +14,11 @@ use batch::RECORD_WORDS;
 use byte_check::{LONGEST_BATCH, LONGEST_DAY};
 use byte_room::LONGEST_REPORT;
 use case_lengths::{at_most, lengths_within};
-use libc::STDOUT_FILENO;
+use std::fs::File;
+use std::io;
+use std::io::{Read, Write};
 use text::lines::LONGEST_TEXT;
+use whole_file::read_full;
 use words::word_at;
 
 // Room for a day file that is a word too long.
@@ -25,48 +28,54 @@ const DAY_ROOM: usize = LONGEST_DAY + 1;
 const BATCH_ROOM: usize = LONGEST_BATCH + RECORD_WORDS;
 
 // The file's next bytes as words; the number of bytes that it gave.
-fn read_part(fd: i32, bytes: &mut [u8], words: &mut [u32]) -> usize
+fn read_part<R: Read>(file: &mut Option<R>, bytes: &mut [u8], words: &mut [u32]) -> usize
     requires { (length bytes.old ≤ 4 * length words.old) × (length bytes.old ≤ 1000000) }
     ensures prefix_len { IsPrefixLen result bytes.new }
     ensures words_after { words.new ≡ put 0 (words_of (take result bytes.new)) words.old }
 {
-    let got = io::read_full(fd, bytes);
+    let got = read_full(file, bytes);
     byte_words::decode(&bytes[..got], words);
     got
 }
 
 // The file's next n words, by way of the front of `bytes`; the number of bytes that it gave.
-fn read_words(fd: i32, n: usize, bytes: &mut [u8], words: &mut [u32]) -> usize
+fn read_words<R: Read>(file: &mut Option<R>, n: usize, bytes: &mut [u8], words: &mut [u32]) -> usize
     requires { (4 * n ≤ length bytes.old) × (n ≤ length words.old) × (n ≤ 10000) }
     ensures upper_bound { result ≤ 4 * n }
     ensures words_after { words.new ≡ put 0 (words_of (take result bytes.new)) words.old }
     ensures bytes_unchanged { drop (4 * n) bytes.new ≡ drop (4 * n) bytes.old }
 {
-    read_part(fd, &mut bytes[..4 * n], words)
+    read_part(file, &mut bytes[..4 * n], words)
 }
 
 // Case i: its heading, then the report or the refusal.
-fn print_case(i: u32, day: &[u32], batch: &[u32], memory: &mut [u32], out: &mut [u8])
+fn print_case(
+    rt: &impl Print,
+    i: u32,
+    day: &[u32],
+    batch: &[u32],
+    memory: &mut [u32],
+    out: &mut [u8],
+) -> io::Result<()>
     requires { longest_text ≤ length out.old }
     ensures memory_after { memory.new ≡ memory_after day.now batch.now [] memory.old }
     ensures out_after { out.new ≡ put 0 (call_text day.now batch.now memory.old) out.old }
 {
-    io::write_all(STDOUT_FILENO, b"CASE ");
-    io::print_decimal(STDOUT_FILENO, i as u64);
-    io::write_all(STDOUT_FILENO, b"\n");
     let n = program::print_words(day, batch, memory, out);
-    io::write_all(STDOUT_FILENO, &out[..n]);
+    println!(rt; "CASE {i}")?;
+    io::writer(rt).write_all(&out[..n])
 }
 
 // The same of so many words of each memory, or all where there are fewer; the rest of the report memory stays.
 fn print_fronts(
+    rt: &impl Print,
     i: u32,
     lengths: &[u32],
     day: &[u32],
     batch: &[u32],
     memory: &mut [u32],
     out: &mut [u8],
-)
+) -> io::Result<()>
     requires { longest_text ≤ length out.old }
     ensures memory_after { memory.new ≡ memory_after (front lengths.now 0 day.now) (front lengths.now 1 batch.now) [] (front lengths.now 2 memory.old) ++ behind lengths.now 2 memory.old }
     ensures out_after { out.new ≡ put 0 (call_text (front lengths.now 0 day.now) (front lengths.now 1 batch.now) (front lengths.now 2 memory.old)) out.old }
@@ -75,33 +84,36 @@ fn print_fronts(
     let d = held.day;
     let b = held.batch;
     let m = held.memory;
-    print_case(i, &day[..d], &batch[..b], &mut memory[..m], out);
+    print_case(rt, i, &day[..d], &batch[..b], &mut memory[..m], out)
 }
 
 // The file's next case: three lengths in words, the day file, the batch.
-fn run_next(fd: i32, i: u32) {
+fn run_next<R: Read>(rt: &impl Print, file: &mut Option<R>, i: u32) -> io::Result<()> {
     let mut bytes = [0u8; 4 * DAY_ROOM];
     let mut lengths = [0u32; 3];
     let mut day = [0u32; DAY_ROOM];
     let mut batch = [0u32; BATCH_ROOM];
     let mut memory = [0u32; LONGEST_REPORT];
     let mut out = [0u8; LONGEST_TEXT];
-    read_words(fd, 3, &mut bytes, &mut lengths);
-    read_words(fd, at_most(lengths[0], DAY_ROOM), &mut bytes, &mut day);
-    read_words(fd, at_most(lengths[1], BATCH_ROOM), &mut bytes, &mut batch);
-    print_fronts(i, &lengths, &day, &batch, &mut memory, &mut out);
+    read_words(file, 3, &mut bytes, &mut lengths);
+    read_words(file, at_most(lengths[0], DAY_ROOM), &mut bytes, &mut day);
+    read_words(
+        file,
+        at_most(lengths[1], BATCH_ROOM),
+        &mut bytes,
+        &mut batch,
+    );
+    print_fronts(rt, i, &lengths, &day, &batch, &mut memory, &mut out)
 }
 
 // The file's first word is the number of cases.
-fn main() {
-    let fd = os::open_read(b"cases.w32");
+fn main(rt: HostRuntime) -> io::Result<()> {
+    let mut file = File::open(&rt, "cases.w32").ok();
     let mut bytes = [0u8; 4];
     let mut count = [0u32; 1];
-    read_words(fd, 1, &mut bytes, &mut count);
-    let n = word_at(&count, 0);
-    let mut i: u32 = 0;
-    while i < n {
-        run_next(fd, i);
-        i += 1;
+    read_words(&mut file, 1, &mut bytes, &mut count);
+    for i in 0..word_at(&count, 0) {
+        run_next(&rt, &mut file, i)?;
     }
+    Ok(())
 }

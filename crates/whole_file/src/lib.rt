@@ -1,16 +1,50 @@
 // Whether a file was opened and read whole.
 #![tactic(auto)]
 
-ghost use Rattle.std.specs.Prelude.{true, false, ◌≡◌, pos};
-ghost use Rattle.std.specs.Int.Signed.{lt_z};
+ghost use Rattle.std.specs.Prelude.{true, false, ◌≡◌, ◌<◌, length, take, IsNone, IsSome, IfSome, MatchOption};
+ghost use Rattle.std.specs.Io.KnownBytes.{Keeps, Consumes, IsAtEnd};
+ghost use Rattle.io.specs.Counts.{IsPrefixLen};
+ghost use Rattle.whole_file.specs.Left.{left};
+
+use std::io::Read;
+
+// Some of the file's next bytes and how many, 0 only at its end or where there is no room; None where it was not opened or fails.
+fn read_some<R: Read>(file: &mut Option<R>, buffer: &mut [u8]) -> Option<usize>
+    ensures prefix_len { IfSome result (λ n. IsPrefixLen n buffer.new) }
+    ensures opened { (IsNone file.old → IsNone file.new) × (IsSome file.old → IsSome file.new) }
+    ensures bytes { MatchOption result (Keeps (left R.remaining file.old) (left R.remaining file.new)) (λ n. Consumes (left R.remaining file.old) (left R.remaining file.new) (take n buffer.new)) }
+    ensures end { IfSome result (λ n. n ≡ 0 → 0 < length buffer.new → IsAtEnd (left R.remaining file.new)) }
+{
+    match file {
+        Some(opened) => opened.read(buffer).ok(),
+        None => None,
+    }
+}
+
+// The file's next bytes, until the buffer is full, the file ends or a read fails; how many there are.
+pub fn read_full<R: Read>(file: &mut Option<R>, buffer: &mut [u8]) -> usize
+    ensures prefix_len { IsPrefixLen result buffer.new }
+    ensures opened { (IsNone file.old → IsNone file.new) × (IsSome file.old → IsSome file.new) }
+    ensures bytes { Consumes (left R.remaining file.old) (left R.remaining file.new) (take result buffer.new) }
+{
+    let mut done = 0;
+    while done < buffer.len() {
+        match read_some(file, &mut buffer[done..]) {
+            None | Some(0) => break,
+            Some(n) => done += n,
+        }
+    }
+    done
+}
 
 // A file was opened, and nothing is left behind what was read of it, or the buffer is full. Else it counts as not opened.
-pub fn was_read(fd: i32, full: bool) -> bool
-    ensures { (lt_z fd (pos 0) ≡ true → result ≡ false) × (lt_z fd (pos 0) ≡ false → full ≡ true → result ≡ true) }
+pub fn was_read<R: Read>(file: &mut Option<R>, full: bool) -> bool
+    ensures opened { (IsNone file.old → result ≡ false) × (IsSome file.old → full ≡ true → result ≡ true) }
+    ensures end { full ≡ false → result ≡ true → IsAtEnd (left R.remaining file.new) }
 {
-    if fd < 0 {
+    if file.is_none() {
         return false;
     }
     let mut more = [0u8; 1];
-    full | (libc::read(fd, &mut more) == 0)
+    full | (read_some(file, &mut more) == Some(0))
 }

@@ -1,6 +1,6 @@
 //! The unit's calls timed in one run beside others that do the same work: the byte call, the call over words, with deposits too, and
 //! netting alone beside plain Rust, all accounts of a broker in one call beside as many byte calls. Fails where a ratio is above its limit.
-//! From the top folder: `rt staticlib mars`, `rt staticlib netting_times`; here `cargo run --release --features bench --bin bench`.
+//! From the top folder: `host/library.sh mars netting_times`; here `cargo run --release --features bench --bin bench`.
 use harness::accounts::{accepted, batch, Account, Size, LARGEST, TYPICAL};
 use harness::cases::LONGEST;
 use harness::deposits::half_covered;

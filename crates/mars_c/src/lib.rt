@@ -1,0 +1,65 @@
+// The C entries, as host/mars.h declares them: each is the library's function, under the same clauses.
+#![tactic(auto)]
+
+ghost use Rattle.std.specs.Prelude.{◌≡◌, ◌+◌, ◌*◌, ◌^◌, length};
+ghost use Rattle.model.specs.Answers.{packed};
+ghost use Rattle.model.specs.Bytes.{byte_answer, bytes_after};
+ghost use Rattle.model.specs.Calls.{answer, memory_after};
+ghost use Rattle.model.specs.ManyAccounts.{reports_answer, results_after, reports_after};
+ghost use Rattle.model.specs.TextReading.{text_says, text_number, text_value, total_after};
+
+// Number × 2^32 + value: 0 and the report's length in words, or the refusal's number and place.
+#[unsafe(no_mangle)]
+pub extern "C" fn mars_report(day: &[u8], batch: &[u8], report: &mut [u8]) -> u64
+    ensures result { result ≡ packed (byte_answer day.now batch.now (length report.old)) }
+    ensures report { report.new ≡ bytes_after day.now batch.now report.old }
+{
+    mars::mars_report(day, batch, report)
+}
+
+// The same of files of words, with deposits.
+#[unsafe(no_mangle)]
+pub extern "C" fn mars_report_words(
+    day: &[u32],
+    batch: &[u32],
+    deposits: &[u32],
+    report: &mut [u32],
+) -> u64
+    ensures result { result ≡ packed (answer day.now batch.now deposits.now (length report.old)) }
+    ensures report { report.new ≡ memory_after day.now batch.now deposits.now report.old }
+{
+    mars::mars_report_words(day, batch, deposits, report)
+}
+
+// The same of all accounts of a broker: 0 and the words written in all, or the number and place of row 60 or 61.
+#[unsafe(no_mangle)]
+pub extern "C" fn mars_reports(
+    day: &[u32],
+    batches: &[u32],
+    lengths: &[u32],
+    results: &mut [u32],
+    report: &mut [u32],
+) -> u64
+    ensures result { result ≡ packed (reports_answer day.now batches.now lengths.now (length results.old) (length report.old)) }
+    ensures results { results.new ≡ results_after day.now batches.now lengths.now results.old (length report.old) }
+    ensures report { report.new ≡ reports_after day.now batches.now lengths.now (length results.old) report.old }
+{
+    mars::mars_reports(day, batches, lengths, results, report)
+}
+
+// Number × 2^32 + value: 0 and the line count of a printed report, whose totals are stored, a refusal's number and place, or
+// 2^32 − 1 and 0.
+#[unsafe(no_mangle)]
+pub extern "C" fn mars_read_text(
+    text: &[u8],
+    ordinary: &mut i64,
+    fail: &mut i64,
+    account: &mut i64,
+) -> u64
+    ensures result { result ≡ text_number (text_says text.now) * 2 ^ 32 + text_value (text_says text.now) }
+    ensures ordinary { ordinary.new ≡ total_after (λ t. t.ordinary) (text_says text.now) ordinary.old }
+    ensures fail { fail.new ≡ total_after (λ t. t.fail) (text_says text.now) fail.old }
+    ensures account { account.new ≡ total_after (λ t. t.account) (text_says text.now) account.old }
+{
+    mars::mars_read_text(text, ordinary, fail, account)
+}
