@@ -8,7 +8,7 @@ use Rattle.numbers.specs.Filling.{filled}
 
 abbrev pub invariant-loop-k : goal.invariant-loop-k
 invariant-loop-k l =
-    (l.k ≤ point_count) × (l.next.at ≡ filled point_count (added_at l.initial.next.at l.p.contracts l.p.base l.p.prices) (λ i. get_or l.initial.next.at i (pos 0)) l.k)
+    (l.k ≤ point_count) × (l.next.at ≡ filled point_count (added_at l.fn.self.at l.position.contracts l.position.base l.position.prices) (λ i. get_or l.fn.self.at i (pos 0)) l.k)
 
 abbrev pub decreases-loop-k : goal.decreases-loop-k
 decreases-loop-k l = point_count - l.k
