@@ -2,21 +2,21 @@
 #![tactic(auto)]
 
 // The answer of a call: the words written, or the check that refused.
-#[derive(Drop)]
+#[derive(Clone, Copy)]
 pub enum Answer {
     Report(usize),
     Refused(Check),
 }
 
 // What a run of checks says: all hold, or the first that does not.
-#[derive(Drop)]
+#[derive(Clone, Copy)]
 pub enum Verdict {
     Passed,
     Failed(Check),
 }
 
 // The stages of check, one variant each: its reason, and the place (the first offending record or word, or what the row says).
-#[derive(Drop)]
+#[derive(Clone, Copy)]
 pub enum Check {
     Bytes(BytesFault, usize),
     DayHeader(DayHeaderFault, usize),
@@ -34,39 +34,39 @@ pub enum Check {
 }
 
 // Rows 1 and 2.
-#[derive(Drop)]
+#[derive(Clone, Copy)]
 pub enum BytesFault {
     DayFile,
     BatchFile,
 }
 
 // Row 10.
-#[derive(Drop)]
+#[derive(Clone, Copy)]
 pub enum DayHeaderFault {
     BadDayHeader,
 }
 
 // Row 11.
-#[derive(Drop)]
+#[derive(Clone, Copy)]
 pub enum DayLengthFault {
     BadDayLength,
 }
 
 // Row 12.
-#[derive(Drop)]
+#[derive(Clone, Copy)]
 pub enum DayWordsFault {
     BadDayWord,
 }
 
 // Rows 13 and 14.
-#[derive(Drop)]
+#[derive(Clone, Copy)]
 pub enum ClassFault {
     ClassOrder,
     OffsetDiffers,
 }
 
 // Rows 15, 16 and 17.
-#[derive(Drop)]
+#[derive(Clone, Copy)]
 pub enum SeriesFault {
     ClassAbsent,
     SeriesOrder,
@@ -74,19 +74,19 @@ pub enum SeriesFault {
 }
 
 // Row 20.
-#[derive(Drop)]
+#[derive(Clone, Copy)]
 pub enum BatchHeaderFault {
     BadBatchHeader,
 }
 
 // Row 21.
-#[derive(Drop)]
+#[derive(Clone, Copy)]
 pub enum BatchLengthFault {
     BadBatchLength,
 }
 
 // Rows 22, 27 and 28.
-#[derive(Drop)]
+#[derive(Clone, Copy)]
 pub enum BatchWordsFault {
     WrongKind,
     OutOfRange,
@@ -94,7 +94,7 @@ pub enum BatchWordsFault {
 }
 
 // Rows 23 to 26.
-#[derive(Drop)]
+#[derive(Clone, Copy)]
 pub enum PositionFault {
     SeriesAbsent,
     ExercisedNonOption,
@@ -103,7 +103,7 @@ pub enum PositionFault {
 }
 
 // Rows 30, 50 and 51.
-#[derive(Drop)]
+#[derive(Clone, Copy)]
 pub enum NettingFault {
     NetTooLarge,
     BadDeposit,
@@ -111,20 +111,20 @@ pub enum NettingFault {
 }
 
 // Row 40.
-#[derive(Drop)]
+#[derive(Clone, Copy)]
 pub enum ReportFault {
     TooShort,
 }
 
 // Rows 60 and 61.
-#[derive(Drop)]
+#[derive(Clone, Copy)]
 pub enum AccountsFault {
     BadLengths,
     ShortResults,
 }
 
 // What a printed text says: a report's line count and totals, a refusal's number and place, or neither.
-#[derive(Drop)]
+#[derive(Clone, Copy)]
 pub enum TextSays {
     Report(ReportTotals),
     Refusal(u32, u32),
@@ -132,7 +132,7 @@ pub enum TextSays {
 }
 
 // The line count of a report and its totals.
-#[derive(Drop)]
+#[derive(Clone, Copy)]
 pub struct ReportTotals {
     pub lines: u32,
     pub ordinary: i64,
@@ -141,14 +141,14 @@ pub struct ReportTotals {
 }
 
 // A number at the front of a text and the bytes that it takes, or none.
-#[derive(Drop)]
+#[derive(Clone, Copy)]
 pub enum NumberRead {
     Number(u64, usize),
     NoNumber,
 }
 
 // The same of an amount.
-#[derive(Drop)]
+#[derive(Clone, Copy)]
 pub enum AmountRead {
     Amount(i64, usize),
     NoAmount,

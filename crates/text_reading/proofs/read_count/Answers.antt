@@ -1,5 +1,6 @@
-use Rattle.std.proofs.Common.{rules, ◌≡◌, ℕ, ◌+◌, ◌-◌, ◌*◌, ◌<◌, ◌≤◌, length, ◌/◌, ◌%◌, Bool, true, false, nat_eq, nat_lt, List, [], ◌∷◌, ◌++◌, slice_index_or, slice_set, bit_and, bit_or, Fits, w8, w32, w64, Bor, MutBor, leb, ◌&&◌, ap, sym, ◌∙◌}
-use Rattle.model.specs.TextReading.{last_read, lines_read, count_read, report_read, text_says}
+use Rattle.std.proofs.Common.{◌∙◌}
+use Rattle.std.proofs.Common.{◌≡◌, Bool, true, [], ◌∷◌, leb, ◌&&◌, ap, sym, ◌∙◌}
+use Rattle.model.specs.TextReading.{lines_read, count_read}
 use Rattle.text_reading.proofs.read_count.Goals as goal
 use Rattle.model.specs.Limits.{most_lines}
 use Rattle.model.specs.TextReading.{begins}
@@ -14,4 +15,3 @@ returns-then-n-has_head c =
 pub returns : goal.returns
 unfolding count_read
 returns c = rw (← c.has_head.ensures, c.if-n-has_head.false)
-

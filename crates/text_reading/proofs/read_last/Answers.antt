@@ -1,5 +1,5 @@
-use Rattle.std.proofs.Common.{rules, ◌≡◌, ℕ, ◌+◌, ◌-◌, ◌*◌, ◌<◌, ◌≤◌, length, ◌/◌, ◌%◌, Bool, true, false, nat_eq, nat_lt, List, [], ◌∷◌, ◌++◌, slice_index_or, slice_set, bit_and, bit_or, Fits, w8, w32, w64, Bor, MutBor, ◌∙◌, ap}
-use Rattle.model.specs.TextReading.{last_read, lines_read, count_read, report_read, text_says}
+use Rattle.std.proofs.Common.{◌∙◌, ap}
+use Rattle.model.specs.TextReading.{last_read}
 use Rattle.text_reading.proofs.read_last.Goals as goal
 use Rattle.model.specs.TextReading.{totals_read}
 use Rattle.text_parts.specs.ReadingSteps.{part}
@@ -12,4 +12,3 @@ returns-then-has_head c =
 pub returns : goal.returns
 unfolding last_read
 returns c = rw (← c.has_head.ensures, c.if-has_head.false)
-

@@ -1,13 +1,14 @@
-use Rattle.std.proofs.Common.{rules, ◌≡◌, ℕ, ◌+◌, ◌-◌, ◌*◌, ◌<◌, ◌≤◌, length, ◌/◌, ◌%◌, Bool, true, false, nat_eq, nat_lt, List, [], ◌∷◌, ◌++◌, slice_index_or, slice_set, bit_and, bit_or, Fits, w8, w32, w64, Bor, MutBor, ◌∙◌, ap, arith}
-use Rattle.model.specs.TextReading.{last_read, lines_read, count_read, report_read, text_says}
+use Rattle.std.proofs.Common.{rules, ◌≡◌, ◌≤◌, length, ◌∙◌, ap, arith}
+use Rattle.model.specs.TextReading.{last_read, lines_read}
 use Rattle.text_reading.proofs.read_lines.Goals as goal
 use Rattle.model.specs.TextReading.{lines_bytes}
 use Rattle.text_parts.specs.ReadingSteps.{lines_within}
 use Rattle.text_parts.specs.ReadingSteps.{part}
 
--- no old: slice_bounds-read_last-count (sub-read_last)
 pub slice_bounds-read_last-count : goal.slice_bounds-read_last-count
-slice_bounds-read_last-count c = ?
+slice_bounds-read_last-count c =
+    let is : c.lines_bytes-at.result ≡ lines_bytes c.args.text.now c.args.n = c.lines_bytes-at.ensures ∙ ap (lines_bytes c.args.text.now) c.index.ensures in
+    omega (arith, is, lines_within c.args.text.now c.args.n)
 
 pub slice_bounds-read_last-start : goal.slice_bounds-read_last-start
 slice_bounds-read_last-start c =
@@ -20,4 +21,3 @@ unfolding lines_read
 returns c =
     let is : c.lines_bytes-at.result ≡ lines_bytes c.args.text.now c.args.n = c.lines_bytes-at.ensures ∙ ap (lines_bytes c.args.text.now) c.index.ensures in
     rw (← is) (c.read_last.ensures ∙ ap (last_read c.args.n) (part c.lines_bytes-at.result c.args.text.now))
-

@@ -1,5 +1,5 @@
-use Rattle.std.proofs.Common.{rules, ◌≡◌, ℕ, ◌+◌, ◌-◌, ◌*◌, ◌<◌, ◌≤◌, length, ◌/◌, ◌%◌, Bool, true, false, nat_eq, nat_lt, List, [], ◌∷◌, ◌++◌, slice_index_or, slice_set, bit_and, bit_or, Fits, w8, w32, w64, Bor, MutBor, ◌∙◌, ap}
-use Rattle.model.specs.TextReading.{last_read, lines_read, count_read, report_read, text_says}
+use Rattle.std.proofs.Common.{rules, ◌∙◌, ap}
+use Rattle.model.specs.TextReading.{count_read, report_read}
 use Rattle.text_reading.proofs.read_report.Goals as goal
 use Rattle.text_parts.specs.ReadingSteps.{FieldTold}
 use Rattle.text_parts.specs.ReadingSteps.{field_told}
@@ -24,4 +24,3 @@ unfolding report_read
 returns c =
     let told : FieldTold c.args.text.now c.in-Number.n c.in-Number.k = field_told c.read_field.ensures c.in-Number.is in
     rw told.read (c.read_count.ensures ∙ ap (count_read c.in-Number.n) (part c.in-Number.k c.args.text.now))
-

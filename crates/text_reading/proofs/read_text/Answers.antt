@@ -1,5 +1,5 @@
-use Rattle.std.proofs.Common.{rules, ◌≡◌, ℕ, ◌+◌, ◌-◌, ◌*◌, ◌<◌, ◌≤◌, length, ◌/◌, ◌%◌, Bool, true, false, nat_eq, nat_lt, List, [], ◌∷◌, ◌++◌, slice_index_or, slice_set, bit_and, bit_or, Fits, w8, w32, w64, Bor, MutBor, ◌∙◌, ap}
-use Rattle.model.specs.TextReading.{last_read, lines_read, count_read, report_read, text_says}
+use Rattle.std.proofs.Common.{◌∙◌, ap}
+use Rattle.model.specs.TextReading.{report_read, text_says}
 use Rattle.text_reading.proofs.read_text.Goals as goal
 use Rattle.model.specs.TextReading.{refusal_read}
 use Rattle.text_parts.specs.ReadingSteps.{part}
@@ -18,4 +18,3 @@ pub returns : goal.returns
 unfolding text_says
 returns c =
     rw (← c.has_head.ensures, c.if-has_head.false, ← c.has_head-2.ensures, c.if-has_head-2.false)
-
