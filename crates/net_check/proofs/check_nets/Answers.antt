@@ -10,9 +10,9 @@ use Rattle.net_check.proofs.check_nets.Goals as goal
 
 pub returns-in-At : goal.returns-in-At
 unfolding netting_check
-returns-in-At c = rw (← c.first_too_large.ensures, c.r-1.given.1)
+returns-in-At c = rw (← c.in-At.ensures)
 
 pub returns-in-Nothing : goal.returns-in-Nothing
 unfolding netting_check
-returns-in-Nothing c = rw (← c.first_too_large.ensures, c.enum_told-1.given.1)
+returns-in-Nothing c = rw (← c.in-Nothing.ensures)
 

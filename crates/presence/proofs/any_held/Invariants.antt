@@ -1,4 +1,4 @@
-use Rattle.std.proofs.Common.{◌-◌, ◌≡◌, ◌+◌, ◌*◌, ◌≤◌, ◌<◌, ℕ, length, tests}
+use Rattle.std.proofs.Common.{◌-◌, ◌≡◌, ◌+◌, ◌*◌, ◌≤◌, ◌<◌, ℕ, length, List, ℤ, Bool}
 use Rattle.numbers.specs.Scan.{any_below}
 use Rattle.numbers.specs.Table.{tabulate}
 use Rattle.model.specs.Netting.{position, places}
@@ -12,6 +12,9 @@ use Rattle.model.specs.Limits.{most_series}
 use Rattle.presence.proofs.any_held.Given as goal
 use Rattle.numbers.specs.Scan.{first_bad}
 use Rattle.numbers.specs.declared.Found.TheVariants.{Nothing}
+
+abbrev test : List ℤ → List ℤ → ℕ → ℕ → ℕ → Bool
+test nets dvps book a i = held_at (entry nets) (entry dvps) book (a + i)
 
 abbrev pub invariant-loop-i : goal.invariant-loop-i
 invariant-loop-i l = (l.i ≤ l.count) × (first_bad (test l.nets l.dvps l.book l.a) l.i ≡ Nothing)

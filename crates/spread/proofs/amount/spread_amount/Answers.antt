@@ -12,11 +12,6 @@ use Rattle.numbers.specs.Extremes.{min_z}
 use Rattle.spread.specs.Laws.{far_margin}
 use Rattle.spread.specs.Laws.{spread_fits}
 
-at : {R : ℤ → ℤ → ℕ → ℕ → Type 0}
-    → ((e q : ℤ) (r₁ r₂ : ℕ) → nat_abs e ≤ contracts_limit → nat_abs q ≤ contracts_limit → r₁ ≤ price_limit → r₂ ≤ price_limit → R e q r₁ r₂)
-    → (c : tie.Start) → R (e c) (q c) c.args.near_rate c.args.far_rate
-at law c = law (e c) (q c) c.args.near_rate c.args.far_rate c.requires.0 c.requires.1 c.requires.2 c.requires.3
-
 pub mul-requires-3 : goal.mul-requires-3
 mul-requires-3 c =
     let q = c.args.quantity in
@@ -27,7 +22,7 @@ mul-requires-3 c =
     let far = pos 2 *ℤ q -ℤ near in
     let far_is : to_z w64 (of_z w64 c.mul.result) -ℤ to_z w64 (of_z w64 c.smaller-near.result) ≡ far = λ i. told c.mul.type_inv (c.mul.ensures ∙ twice_is) i -ℤ near_is i in
     let far_margin_is : to_z w64 (of_z w64 c.sub-far.result) *ℤ to_z w64 (of_z w64 c.signed-2.result) ≡ far *ℤ pos c.args.far_rate = λ i. told c.sub-far.type_inv (c.sub-far.ensures ∙ far_is) i *ℤ told c.signed-2.type_inv c.signed-2.ensures i in
-    fits_by (far_margin_is) (omega (arith, at far_margin c))
+    fits_by (far_margin_is) (omega (arith, far_margin c.args.spot c.args.quantity c.args.near_rate c.args.far_rate c.requires.0 c.requires.1 c.requires.2 c.requires.3))
 
 pub add-requires : goal.add-requires
 add-requires c =
@@ -41,5 +36,5 @@ add-requires c =
     let far_is : to_z w64 (of_z w64 c.mul.result) -ℤ to_z w64 (of_z w64 c.smaller-near.result) ≡ far = λ i. told c.mul.type_inv (c.mul.ensures ∙ twice_is) i -ℤ near_is i in
     let far_margin_is : to_z w64 (of_z w64 c.sub-far.result) *ℤ to_z w64 (of_z w64 c.signed-2.result) ≡ far *ℤ pos c.args.far_rate = λ i. told c.sub-far.type_inv (c.sub-far.ensures ∙ far_is) i *ℤ told c.signed-2.type_inv c.signed-2.ensures i in
     let sum_is : to_z w64 (of_z w64 c.mul-2.result) +ℤ to_z w64 (of_z w64 c.mul-3.result) ≡ (spread_amount (e) (q) c.args.near_rate c.args.far_rate) = λ i. told c.mul-2.type_inv (c.mul-2.ensures ∙ near_margin_is) i +ℤ told c.mul-3.type_inv (c.mul-3.ensures ∙ far_margin_is) i in
-    fits_by (sum_is) (at spread_fits c)
+    fits_by (sum_is) (spread_fits c.args.spot c.args.quantity c.args.near_rate c.args.far_rate c.requires.0 c.requires.1 c.requires.2 c.requires.3)
 

@@ -1,5 +1,5 @@
 use Rattle.std.proofs.lemmas.Bool.{not-false}
-use Rattle.std.proofs.Common.{rules, ◌≡◌, ◌≤◌, ◌<◌, ◌^◌, pos, nat_abs, ◌+ℤ◌, ℕ, ◌+◌, ◌-◌, ◌*◌, length, ◌/◌, ◌%◌, Bool, true, false, nat_eq, nat_lt, List, [], ◌∷◌, ◌++◌, slice_index_or, slice_set, bit_and, bit_or, Fits, w8, w32, w64, Bor, MutBor, ℤ, ◌-ℤ◌, ◌*ℤ◌, ◌≤ℤ◌, ◌<ℤ◌, FitsSigned, to_z, of_z, arith, neg_ℤ, ◌∙◌, ap, sym}
+use Rattle.std.proofs.Common.{rules, ◌≡◌, ◌≤◌, ◌<◌, ◌^◌, pos, nat_abs, ◌+ℤ◌, ℕ, ◌+◌, ◌-◌, ◌*◌, length, ◌/◌, ◌%◌, Bool, true, false, nat_eq, nat_lt, List, [], ◌∷◌, ◌++◌, slice_index_or, slice_set, bit_and, bit_or, Fits, w8, w32, w64, Bor, MutBor, ℤ, ◌-ℤ◌, ◌*ℤ◌, ◌≤ℤ◌, ◌<ℤ◌, FitsSigned, to_z, of_z, arith, ◌∙◌, neg_ℤ, ap, sym}
 use Rattle.model.specs.DayFile.{series_count}
 use Rattle.model.specs.Steps.Spread.{short_side, long_side, total_short, total_long}
 use Rattle.model.specs.Limits.{contracts_limit}
@@ -7,6 +7,7 @@ use Rattle.classes.specs.Tables.{entry, Given}
 use Rattle.classes.specs.Range.{Range}
 use Rattle.spread.specs.Sides.{future_short, future_long}
 use Rattle.spread.proofs.sides.Sides.add.Goals as goal
+use Rattle.std.proofs.Common.{refl}
 use Rattle.classes.specs.Sizes.{net-size}
 use Rattle.model.specs.DayFile.{is_future}
 use Rattle.model.specs.DayFile.{series_type}
@@ -59,7 +60,7 @@ returns c =
     let short_is : to_z w64 (of_z w64 c.short_side.result) ≡ short_side (z) = told c.short_side.type_inv (c.short_side.ensures ∙ ap short_side (net_is)) in
     let long_is : to_z w64 (of_z w64 c.long_side.result) ≡ long_side (z) = told c.long_side.type_inv (c.long_side.ensures ∙ ap long_side (net_is)) in
     let e : is_future (series_type (d) c.args.s) ≡ true =
-    ap is_future (sym c.series_type.ensures) ∙ sym c.is_future.ensures ∙ not-false _ c.if-not-is_future.false in (
+    ap is_future (sym c.series_type.ensures) ∙ sym c.is_future.ensures ∙ c.if-not-is_future.false in (
       told c.add.type_inv (c.add.ensures ∙ (λ i. self_short i +ℤ short_is i) ∙ ap (λ (y : ℤ). c.args.self.short +ℤ y) (cond_on _ (short_side (z)) (pos 0) e)),
       told c.add-2.type_inv (c.add-2.ensures ∙ (λ i. self_long i +ℤ long_is i) ∙ ap (λ (y : ℤ). c.args.self.long +ℤ y) (cond_on _ (long_side (z)) (pos 0) e)),
     )

@@ -1,0 +1,56 @@
+use Rattle.std.proofs.Common.{rules, ◌≡◌, cond, ◌<◌, pos, ℕ, ◌+◌, ◌-◌, ◌*◌, ◌≤◌, length, ◌/◌, ◌%◌, Bool, true, false, nat_eq, nat_lt, List, [], ◌∷◌, ◌++◌, slice_index_or, slice_set, bit_and, bit_or, Fits, w8, w32, w64, Bor, MutBor, ℤ, ◌+ℤ◌, ◌-ℤ◌, ◌*ℤ◌, ◌≤ℤ◌, ◌<ℤ◌, FitsSigned, to_z, of_z, ◌∙◌, arith}
+use Rattle.model.specs.DayFile.{class_count, series_count, series_type, is_option}
+use Rattle.model.specs.Steps.Premium.{in_the_money, premium_of}
+use Rattle.model.specs.Steps.Premium.{premium as premium_sum}
+use Rattle.classes.specs.Tables.{entry, Day, Given}
+use Rattle.classes.specs.Range.{Range}
+use Rattle.premium.proofs.premium.Goals as goal
+use Rattle.model.proofs.Bounds.{premium_so_far}
+use Rattle.numbers.specs.Abs.{fits_by}
+use Rattle.numbers.specs.Abs.{told}
+use Rattle.premium.specs.Laws.{premium_end}
+use Rattle.premium.specs.Laws.{premium_start}
+use Rattle.premium.specs.Laws.{premium_to}
+use Rattle.premium.specs.Laws.{premium_turn}
+
+pub loop-s-init : goal.loop-s-init
+loop-s-init c =
+    let d = c.args.day.now in
+    let n = entry c.args.nets.now in
+    let k = c.args.book in
+    let cls = c.args.c in
+    let r : Range d cls c.args.a c.args.b = c.requires.range in
+    (search rules, search rules, premium_start (d) (n) (k) (cls) c.args.a c.args.b (r))
+
+pub add-sum-requires : goal.add-sum-requires
+add-sum-requires c =
+    let d = c.args.day.now in
+    let n = entry c.args.nets.now in
+    let v = c.requires.given.dvp in
+    let k = c.args.book in
+    let cls = c.args.c in
+    let r : Range d cls c.args.a c.args.b = c.requires.range in
+    let next_is : to_z w64 c.loop-s.sum-bits +ℤ to_z w64 (of_z w64 c.series_premium.result) ≡ (premium_to (d) (n) (k) (cls) (c.loop-s.s + 1)) = (λ i. c.loop-s.invariant.2 i +ℤ told c.series_premium.type_inv c.series_premium.ensures i) ∙ premium_turn (d) (n) (k) (cls) c.args.a c.args.b (r) c.loop-s.s c.loop-s.invariant.0 (omega arith) in
+    let m : c.loop-s.s + 1 ≤ series_count (d) = omega arith in
+    fits_by (next_is)
+    (omega (arith, premium_so_far (d) (n) (v) c.requires.given.day.rows c.requires.given.budget (k) (cls) (c.loop-s.s + 1) (omega arith) (r).class m))
+
+pub loop-s-preserved : goal.loop-s-preserved
+loop-s-preserved c =
+    let d = c.args.day.now in
+    let n = entry c.args.nets.now in
+    let k = c.args.book in
+    let cls = c.args.c in
+    let r : Range d cls c.args.a c.args.b = c.requires.range in
+    let next_is : to_z w64 c.loop-s.sum-bits +ℤ to_z w64 (of_z w64 c.series_premium.result) ≡ (premium_to (d) (n) (k) (cls) (c.loop-s.s + 1)) = (λ i. c.loop-s.invariant.2 i +ℤ told c.series_premium.type_inv c.series_premium.ensures i) ∙ premium_turn (d) (n) (k) (cls) c.args.a c.args.b (r) c.loop-s.s c.loop-s.invariant.0 (omega arith) in
+    (search rules, search rules, told c.add-sum.type_inv (c.add-sum.ensures ∙ next_is))
+
+pub returns : goal.returns
+returns c =
+    let d = c.args.day.now in
+    let n = entry c.args.nets.now in
+    let k = c.args.book in
+    let cls = c.args.c in
+    let r : Range d cls c.args.a c.args.b = c.requires.range in
+    c.loop-s.invariant.2 ∙ premium_end (d) (n) (k) (cls) c.args.a c.args.b (r) c.loop-s.s (omega arith)
+

@@ -1,0 +1,34 @@
+use Rattle.std.proofs.Common.{rules, ◌≡◌, ◌+◌, ◌*◌, ◌≤◌, ◌<◌, ℕ, ◌-◌, length, ◌/◌, ◌%◌, Bool, true, false, nat_eq, nat_lt, List, [], ◌∷◌, ◌++◌, slice_index_or, slice_set, bit_and, bit_or, Fits, w8, w32, w64, Bor, MutBor, arith, ℤ}
+use Rattle.numbers.specs.Scan.{any_below}
+use Rattle.numbers.specs.Table.{tabulate}
+use Rattle.model.specs.Netting.{position, places}
+use Rattle.model.specs.Steps.Positions.{held}
+use Rattle.model.specs.Steps.Lines.{has_line}
+use Rattle.model.proofs.Accepted.{DayRows}
+use Rattle.classes.specs.Tables.{entry}
+use Rattle.classes.specs.Starts.{start_table, starts}
+use Rattle.presence.specs.Presence.{held_at, group_flags}
+use Rattle.model.specs.Limits.{most_series}
+use Rattle.presence.proofs.any_held.Goals as goal
+use Rattle.numbers.specs.Scan.{first-zero}
+use Rattle.numbers.specs.Scan.{scan_hits}
+use Rattle.numbers.specs.Scan.{scan_more}
+
+abbrev test : List ℤ → List ℤ → ℕ → ℕ → ℕ → Bool
+test nets dvps book a i = held_at (entry nets) (entry dvps) book (a + i)
+
+pub loop-i-init : goal.loop-i-init
+loop-i-init c =
+    let at = test c.args.nets.now c.args.dvps.now c.args.book c.args.a in
+    (search rules, first-zero (at))
+
+pub returns-then-series_held : goal.returns-then-series_held
+returns-then-series_held c =
+    let at = test c.args.nets.now c.args.dvps.now c.args.book c.args.a in
+    scan_hits (at) c.loop-i.i c.args.count _ c.loop-i.invariant.1 c.series_held.ensures c.if-series_held.true (omega arith)
+
+pub loop-i-preserved : goal.loop-i-preserved
+loop-i-preserved c =
+    let at = test c.args.nets.now c.args.dvps.now c.args.book c.args.a in
+    (search rules, scan_more (at) c.loop-i.i _ c.loop-i.invariant.1 c.series_held.ensures c.if-series_held.false)
+
