@@ -1,5 +1,5 @@
 -- The two numbers of an answer, case by case: 0 and the length; 40 and the words needed; a refusal's number and place. The second is below 2 ^ 32.
-use Rattle.std.specs.Prelude.{◌≡◌, refl, List, [], ℕ, ◌/◌, ◌^◌, ◌≤◌, ◌<◌, leb}
+use Rattle.std.specs.Prelude.{◌≡◌, refl, List, [], ℕ, ◌/◌, ◌^◌, ◌≤◌, ◌<◌}
 use Rattle.std.proofs.Common.{sym, subst, le-leb}
 use Rattle.std.proofs.lemmas.Bool.{lt-leb}
 use Rattle.model.specs.declared.Answer.{Answer}

@@ -6,6 +6,8 @@ use Prim.Native.Nat.{ℕ, zero, suc, ◌+◌, ◌-◌, ◌*◌, ◌≤◌, ◌<�
 use Rattle.std.proofs.Math.Decide.{le_ind}
 use Rattle.model.specs.declared.Answer.{Answer}
 use Rattle.model.specs.declared.Answer.TheVariants.{Report}
+use Rattle.model.specs.declared.AccountsFault.TheVariants.{BadLengths, ShortResults}
+use Rattle.model.specs.declared.Check.TheVariants.{Accounts}
 use Rattle.model.specs.declared.Verdict.{Verdict}
 use Rattle.model.specs.declared.Verdict.TheVariants.{Passed, Failed}
 use Rattle.model.specs.Limits.{most_accounts}
@@ -81,8 +83,8 @@ pub rows_pass : (bs ns : List ℕ) (entries : ℕ) → AccountsRows bs ns entrie
 unfolding accounts_check row60 row61
 rows_pass bs ns entries r =
     tried_pass _
-    (plain_back _ (row60 bs ns) (rw (le-ltb most_accounts (length ns) r.few, eq-eqb (words_before ns (length ns)) (length bs) r.sum))
-    then plain_back _ _ (le-ltb entries (result_numbers * length ns) r.list)
+    (plain_back (Accounts BadLengths) (row60 bs ns) (rw (le-ltb most_accounts (length ns) r.few, eq-eqb (words_before ns (length ns)) (length bs) r.sum))
+    then plain_back (Accounts ShortResults) _ (le-ltb entries (result_numbers * length ns) r.list)
     then tt)
 
 pub other_accounts : OtherAccounts

@@ -1,5 +1,5 @@
 -- The words of an accepted report say the amounts: read back, they are those of the steps.
-use Rattle.std.specs.Prelude.{◌≡◌, true, ℕ, ◌+◌, ◌≤◌, ◌<◌, ℤ, length, drop}
+use Rattle.std.specs.Prelude.{◌≡◌, true, ℕ, ◌≤◌, ◌<◌, ℤ, length, drop}
 use Rattle.std.proofs.Common.{ap, ◌∙◌}
 use mathlib.Core.List.{List, [], ◌∷◌, ◌++◌}
 use Rattle.numbers.specs.Maps.{bit}
@@ -9,7 +9,7 @@ use Rattle.model.specs.Steps.Lines
 use Rattle.model.specs.Steps.Margin
 use Rattle.model.specs.Steps.Minimum
 use Rattle.model.specs.Report.{words_of_amounts, line_words, line_count, report_words}
-use Rattle.model.specs.Calls.{Accepted, net_after, needed, report, memory_after}
+use Rattle.model.specs.Calls.{Accepted, net_after, needed, memory_after}
 use Rattle.model.specs.Reading.{count_in, stands_in, total_in, amount_in, amounts_in, six_in}
 use Rattle.model.proofs.Accepted.{DayRows, day_rows}
 use Rattle.model.proofs.Read.{total_of, count_read_lem, stands_read, line_read, total_read}

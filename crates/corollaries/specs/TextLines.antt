@@ -1,6 +1,6 @@
 -- A line that was written has no newline but its last byte.
-use Rattle.std.specs.Prelude.{◌≡◌, refl, Bool, true, false, cond, List, [], ◌∷◌, ◌++◌, ℕ, zero, suc, ◌+◌, ◌*◌, ◌/◌, ◌%◌, ltb, eqb, ℤ, pos, negsuc, length, get_or}
-use Rattle.std.proofs.Common.{sym, ◌∙◌, append_assoc, arith, ne_eqb, length-append, drop_at}
+use Rattle.std.specs.Prelude.{◌≡◌, refl, Bool, true, false, cond, List, [], ◌∷◌, ◌++◌, ℕ, zero, suc, ◌+◌, ◌*◌, ◌/◌, ◌%◌, ltb, eqb, ℤ, pos, negsuc, length, drop, get_or}
+use Rattle.std.proofs.Common.{sym, subst, ◌∙◌, append_assoc, arith, ne_eqb, length-append, drop_at}
 use Rattle.model.specs.Words.{payload, bits}
 use Rattle.model.specs.Reading.{amount_in}
 use Rattle.model.specs.Printed.{digits, decimal, signed_decimal, number_field, amount_fields, fail_head, ordinary_head, line_text, lines_text}
@@ -70,4 +70,5 @@ lines_bytes_lem w (suc n) r =
     let l = lines_text w n in
     let t = line_text w (3 + words_a_line * n) in
     let e : lines_bytes (l ++ (t ++ r)) n ≡ length l = lines_bytes_lem w n (t ++ r) in
-    rw (append_assoc, e, drop_at l (t ++ r) (length l) refl, line_bytes_lem w (3 + words_a_line * n) r) (sym (length-append l t))
+    subst (λ (x : List ℕ). lines_bytes x n + line_bytes (drop (lines_bytes x n) x) ≡ length (l ++ t)) (sym (append_assoc l t r))
+    (rw (e, drop_at l (t ++ r) (length l) refl, line_bytes_lem w (3 + words_a_line * n) r) (sym (length-append l t)))

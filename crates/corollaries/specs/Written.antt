@@ -11,7 +11,7 @@ use Rattle.model.specs.Words.{word}
 use Rattle.model.specs.Netting.{net, dvp}
 use Rattle.model.specs.Steps.Lines.{has_line}
 use Rattle.model.specs.Report.{words_of_amounts, line_words, line_count, totals, words_needed, words_a_line, words_for, report_words}
-use Rattle.model.specs.Calls.{verdict, Accepted, net_after, answer, needed, report, memory_after}
+use Rattle.model.specs.Calls.{verdict, Accepted, net_after, answer, needed, memory_after}
 use Rattle.model.specs.Reading.{count_in, map_in, stands_in, line_in}
 use Rattle.model.proofs.Length.{nine_words}
 use Rattle.model.proofs.Read.{count_read_lem, map_read, stands_read, line_read}

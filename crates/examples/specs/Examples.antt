@@ -1,6 +1,6 @@
 -- Worked examples of the clearing house's documents: 001's attachments 1 to 8, and 000's 3.4 to 3.9. Debit is positive here; the attachments of 001 print the opposite sign.
 -- Each figure of an account begins with the call's number, 0: the account is accepted. What a document leaves out is assumed 0, or said beside the account.
-use Rattle.std.specs.Prelude.{◌≡◌, refl, List, [], ◌∷◌, ◌++◌, map, ℕ, ◌+◌, ◌*◌, ℤ, pos, replicate}
+use Rattle.std.specs.Prelude.{◌≡◌, refl, List, [], ◌∷◌, ◌++◌, map, ℕ, ◌*◌, ℤ, pos, replicate}
 use Rattle.model.specs.Netting.{net, dvp}
 use Rattle.model.specs.Steps.Mtm.{mtm}
 use Rattle.model.specs.Steps.Premium.{premium}
