@@ -1,6 +1,4 @@
-use Rattle.std.proofs.Common.{◌-◌, ◌≡◌, ◌+◌, ◌≤◌, length, ℕ, ◌*◌, ◌<◌}
-use Rattle.model.specs.DayFile.{class_count, class_at, series_at}
-use Rattle.model.specs.DayChecks.{row15, row16, row17}
+use Rattle.std.proofs.Common.{◌-◌, ◌≡◌, ◌≤◌}
 use Rattle.series_rows.specs.Presence.{presence}
 use Rattle.series_rows.proofs.present_numbers.Given as goal
 
