@@ -1,0 +1,33 @@
+use Rattle.std.proofs.Common.{rules, ◌≡◌, ◌+◌, ◌≤◌, ◌<◌, length, ℕ, ◌-◌, ◌*◌, ◌/◌, ◌%◌, Bool, true, false, nat_eq, nat_lt, List, [], ◌∷◌, ◌++◌, slice_index_or, slice_set, bit_and, bit_or, Fits, w8, w32, w64, Bor, MutBor}
+use Rattle.numbers.specs.declared.Found.TheVariants.{Nothing}
+use Rattle.numbers.specs.Scan.{first_bad}
+use Rattle.model.specs.Batch.{record_count, record_words, batch_words}
+use Rattle.model.specs.BatchChecks.{dvp_out_of_range, row22, row27, row28, row_of, word_row, word_check}
+use Rattle.record_words.specs.BadRecord.{bad_record}
+use Rattle.batch_words.proofs.check_words.Goals as goal
+use Rattle.batch_words.specs.Clear.{words_pass}
+use Rattle.numbers.specs.Scan.{first-front}
+use Rattle.numbers.specs.Scan.{first_at}
+use Rattle.std.proofs.Common.{ap}
+use Rattle.std.proofs.Common.{sym}
+use Rattle.std.proofs.Common.{◌∙◌}
+
+pub check_rows-requires-clause-from_bound : goal.check_rows-requires-clause-from_bound
+check_rows-requires-clause-from_bound c =
+    let found = sym c.first_bad_record.ensures ∙ c.in-At.is in
+    let l = (first_at _ _ _ found).0 in
+    let h = first-front _ _ _ found in
+    search rules
+
+pub check_rows-requires-clause-from_value : goal.check_rows-requires-clause-from_value
+check_rows-requires-clause-from_value c =
+    let found = sym c.first_bad_record.ensures ∙ c.in-At.is in
+    let l = (first_at _ _ _ found).0 in
+    let h = first-front _ _ _ found in
+    search rules
+
+pub returns-in-Nothing : goal.returns-in-Nothing
+returns-in-Nothing c =
+    let s = c.args in
+    sym (words_pass s.batch.now (ap (first_bad (bad_record s.batch.now)) (sym c.record_count-count.ensures) ∙ sym c.first_bad_record.ensures ∙ c.in_default.is))
+

@@ -1,0 +1,13 @@
+use Rattle.std.proofs.Common.{◌-◌, ◌≡◌, ◌+◌, ◌≤◌, ◌<◌, length, ℕ, ◌*◌}
+use Rattle.numbers.specs.declared.Found.TheVariants.{Nothing}
+use Rattle.numbers.specs.Scan.{first_bad}
+use Rattle.model.specs.Batch.{record_count, record_words, batch_words}
+use Rattle.model.specs.BatchChecks.{dvp_out_of_range, row22, row27, row28, row_of, word_row, word_check}
+use Rattle.record_words.specs.BadRecord.{bad_record}
+use Rattle.batch_words.proofs.first_in_batch.Given as goal
+
+abbrev pub invariant-loop-r : goal.invariant-loop-r
+invariant-loop-r l = (l.r ≤ l.count) × (first_bad (row_of l.fault l.batch) (batch_words l.r) ≡ Nothing)
+
+abbrev pub decreases-loop-r : goal.decreases-loop-r
+decreases-loop-r l = l.count - l.r

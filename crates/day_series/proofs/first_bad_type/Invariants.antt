@@ -1,0 +1,11 @@
+use Rattle.std.proofs.Common.{◌-◌, ◌≡◌, ◌≤◌}
+use Rattle.numbers.specs.Scan.{first_bad}
+use Rattle.model.specs.DayChecks.{row17}
+use Rattle.day_series.proofs.first_bad_type.Given as goal
+use Rattle.numbers.specs.declared.Found.TheVariants.{Nothing}
+
+abbrev pub invariant-loop-s : goal.invariant-loop-s
+invariant-loop-s l = (l.s ≤ l.count) × (first_bad (row17 l.day) l.s ≡ Nothing)
+
+abbrev pub decreases-loop-s : goal.decreases-loop-s
+decreases-loop-s l = l.count - l.s

@@ -1,0 +1,12 @@
+use Rattle.std.proofs.Common.{◌-◌, ◌≡◌, ◌≤◌}
+use Rattle.numbers.specs.Scan.{first_bad}
+use Rattle.model.specs.DayFile.{class_words}
+use Rattle.model.specs.DayChecks.{bad_class_word}
+use Rattle.day_words.proofs.any_bad_class_word.Given as goal
+use Rattle.numbers.specs.declared.Found.TheVariants.{Nothing}
+
+abbrev pub invariant-loop-i : goal.invariant-loop-i
+invariant-loop-i l = (l.i ≤ class_words) × (first_bad (bad_class_word l.day l.c) l.i ≡ Nothing)
+
+abbrev pub decreases-loop-i : goal.decreases-loop-i
+decreases-loop-i l = class_words - l.i
