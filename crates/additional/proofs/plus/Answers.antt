@@ -19,7 +19,7 @@ new a b k = get_or a k (pos 0) +ℤ get_or b k (pos 0)
 pub loop-k-init : goal.loop-k-init
 loop-k-init c =
     let a = c.args.points.at in
-    let b = c.args.points.at in
+    let b = c.args.more.at in
     let old : ℕ → ℤ = λ k. get_or a k (pos 0) in
     let la : length a ≡ point_count = search rules in
     (search rules, tabulate-get_or (a) point_count (pos 0) (la) ∙ filled_none point_count (new (a) (b)) (old))
@@ -27,7 +27,7 @@ loop-k-init c =
 pub add-requires : goal.add-requires
 add-requires c =
     let a = c.args.points.at in
-    let b = c.args.points.at in
+    let b = c.args.more.at in
     let old : ℕ → ℤ = λ k. get_or a k (pos 0) in
     let was_is : to_z w64 (of_z w64 (get_or c.loop-k.next.at c.loop-k.k (pos 0))) ≡ old c.loop-k.k = told c.was-1.given (ap (λ x. get_or x c.loop-k.k (pos 0)) c.loop-k.invariant.1 ∙ filled_at point_count (new (a) (b)) (old) c.loop-k.k (pos 0) (omega arith)) in
     let next_is : to_z w64 (of_z w64 (get_or c.loop-k.next.at c.loop-k.k (pos 0))) +ℤ to_z w64 (of_z w64 (get_or (b) c.loop-k.k (pos 0))) ≡ new (a) (b) c.loop-k.k = λ i. was_is i +ℤ told {r = get_or (b) c.loop-k.k (pos 0)} c.amount-1.given refl i in
@@ -38,7 +38,7 @@ add-requires c =
 pub loop-k-preserved : goal.loop-k-preserved
 loop-k-preserved c =
     let a = c.args.points.at in
-    let b = c.args.points.at in
+    let b = c.args.more.at in
     let old : ℕ → ℤ = λ k. get_or a k (pos 0) in
     let was_is : to_z w64 (of_z w64 (get_or c.loop-k.next.at c.loop-k.k (pos 0))) ≡ old c.loop-k.k = told c.was-1.given (ap (λ x. get_or x c.loop-k.k (pos 0)) c.loop-k.invariant.1 ∙ filled_at point_count (new (a) (b)) (old) c.loop-k.k (pos 0) (omega arith)) in
     let next_is : to_z w64 (of_z w64 (get_or c.loop-k.next.at c.loop-k.k (pos 0))) +ℤ to_z w64 (of_z w64 (get_or (b) c.loop-k.k (pos 0))) ≡ new (a) (b) c.loop-k.k = λ i. was_is i +ℤ told {r = get_or (b) c.loop-k.k (pos 0)} c.amount-1.given refl i in

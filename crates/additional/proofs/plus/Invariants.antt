@@ -10,7 +10,7 @@ abbrev new : List ℤ → List ℤ → ℕ → ℤ
 new a b k = get_or a k (pos 0) +ℤ get_or b k (pos 0)
 
 abbrev pub invariant-loop-k : goal.invariant-loop-k
-invariant-loop-k l = (l.k ≤ point_count) × (l.next.at ≡ filled point_count (new l.initial.next.at l.more.at) (λ i. get_or l.initial.next.at i (pos 0)) l.k)
+invariant-loop-k l = (l.k ≤ point_count) × (l.next.at ≡ filled point_count (new l.fn.points.at l.more.at) (λ i. get_or l.fn.points.at i (pos 0)) l.k)
 
 abbrev pub decreases-loop-k : goal.decreases-loop-k
 decreases-loop-k l = point_count - l.k

@@ -1,4 +1,4 @@
-use Rattle.std.proofs.Common.{rules, ◌≡◌, cond, ℕ, ◌*◌, ◌≤◌, ◌<◌, pos, nat_abs, ◌+ℤ◌, ◌*ℤ◌, get_or, ◌+◌, ◌-◌, length, ◌/◌, ◌%◌, Bool, true, false, nat_eq, nat_lt, List, [], ◌∷◌, ◌++◌, slice_set, bit_and, bit_or, Fits, w8, w32, w64, Bor, MutBor, ℤ, ◌-ℤ◌, ◌≤ℤ◌, ◌<ℤ◌, FitsSigned, to_z, of_z, ◌∙◌, to_z-of_z, ap}
+use Rattle.std.proofs.Common.{rules, ◌≡◌, cond, ℕ, ◌*◌, ◌≤◌, ◌<◌, pos, nat_abs, ◌+ℤ◌, ◌*ℤ◌, get_or, ◌+◌, ◌-◌, length, ◌/◌, ◌%◌, Bool, true, false, nat_eq, nat_lt, List, [], ◌∷◌, ◌++◌, slice_set, bit_and, bit_or, Fits, w8, w32, w64, Bor, MutBor, ℤ, ◌-ℤ◌, ◌≤ℤ◌, ◌<ℤ◌, FitsSigned, to_z, of_z, ◌∙◌, to_z-of_z, ap, not}
 use Rattle.numbers.specs.Table.{tabulate}
 use Rattle.model.specs.DayFile.{class_count, series_count, series_type, is_future, multiplier, closing, underlying, projected}
 use Rattle.model.specs.Steps.Classes.{signed_by_type}
@@ -19,7 +19,7 @@ use Rattle.points.specs.Series.{open_prices_limit}
 pub returns-then-not-not_zero : goal.returns-then-not-not_zero
 returns-then-not-not_zero c =
     open_none c.args.day.now c.args.s c.args.net c.args.points.at
-    (is_none c.not_zero.result _ _ (to_z-of_z c.ranges.net) c.not_zero.ensures c.if-not-not_zero.true) (search rules)
+    (is_none c.not_zero.result _ _ (to_z-of_z c.ranges.net) c.not_zero.ensures (ap not c.if-not-not_zero.true)) (search rules)
 
 pub add-requires : goal.add-requires
 add-requires c =
