@@ -1,3 +1,4 @@
+use Rattle.std.proofs.lemmas.Nat.{ones-le}
 use Rattle.std.proofs.Common.{rules, ◌≡◌, ◌∷◌, [], ◌+◌, ◌^◌, ◌≤◌, ◌<◌, length, ℕ, ◌-◌, ◌*◌, ◌/◌, ◌%◌, Bool, true, false, nat_eq, nat_lt, List, ◌++◌, slice_index_or, slice_set, bit_and, bit_or, Fits, w8, w32, w64, Bor, MutBor, arith}
 use Rattle.std.specs.Int.Count.{ones}
 use Rattle.numbers.specs.Put.{put}

@@ -1,0 +1,26 @@
+use Rattle.std.proofs.Common.{rules, ◌≡◌, ◌+◌, ◌<◌, ℕ, ◌-◌, ◌*◌, ◌≤◌, length, ◌/◌, ◌%◌, Bool, true, false, nat_eq, nat_lt, List, [], ◌∷◌, ◌++◌, slice_index_or, slice_set, bit_and, bit_or, Fits, w8, w32, w64, Bor, MutBor, ℤ, pos, ◌+ℤ◌, ◌-ℤ◌, ◌*ℤ◌, ◌≤ℤ◌, ◌<ℤ◌, FitsSigned, to_z, of_z}
+use Rattle.model.specs.DayFile.{class_count}
+use Rattle.model.proofs.Records.{Budget}
+use Rattle.classes.specs.Tables.{entry, Given}
+use Rattle.classes.specs.Range.{Range}
+use Rattle.classes.specs.Starts.{start_table}
+use Rattle.margin.specs.Groups.{Small, no_amounts, added, class_amounts, amounts_below}
+use Rattle.model.specs.Limits.{group_count}
+use Rattle.margin.proofs.group.Amounts.add.Goals as goal
+use Rattle.numbers.specs.Abs.{back}
+use Rattle.numbers.specs.Abs.{told}
+
+sum_is : to_z w64 (of_z w64 a) +ℤ to_z w64 (of_z w64 b) ≡ a +ℤ b
+  sum_is = λ i. back {r = a} refl (omega arith) i +ℤ back {r = b} refl (omega arith) i
+
+pub returns : goal.returns
+returns c =
+    λ i.
+    record {
+      spread = told c.add.type_inv (c.add.ensures ∙ sum_is c.args.self.spread c.args.more.spread (omega (arith, c.requires.small.spread_small)) (omega (arith, c.requires.small_2.spread_small))) i;
+      mtm = told c.add-2.type_inv (c.add-2.ensures ∙ sum_is c.args.self.mtm c.args.more.mtm c.requires.small.mtm_small c.requires.small_2.mtm_small) i;
+      premium = told c.add-3.type_inv (c.add-3.ensures ∙ sum_is c.args.self.premium c.args.more.premium (omega (arith, c.requires.small.premium_small)) (omega (arith, c.requires.small_2.premium_small))) i;
+      minimum = told c.add-4.type_inv (c.add-4.ensures ∙ sum_is c.args.self.minimum c.args.more.minimum (omega (arith, c.requires.small.minimum_small)) (omega (arith, c.requires.small_2.minimum_small))) i;
+      points = record { at = c.plus-sum.ensures i };
+    }
+
