@@ -1,17 +1,7 @@
-use Rattle.std.proofs.Common.{rules, ◌≡◌, not, ◌<◌, eqb, ℕ, ◌+◌, ◌-◌, ◌*◌, ◌≤◌, length, ◌/◌, ◌%◌, Bool, true, false, nat_lt, List, [], ◌∷◌, ◌++◌, slice_index_or, slice_set, bit_and, bit_or, Fits, w8, w32, w64, Bor, MutBor}
-use Rattle.numbers.specs.declared.Found.TheVariants.{At}
-use Rattle.numbers.specs.Distinct.{again}
-use Rattle.numbers.specs.Scan.{first_bad, hit}
-use Rattle.model.specs.DayFile.{series_count, class_with}
-use Rattle.model.specs.Deposits.{deposit_count, named_number}
-use Rattle.model.specs.DepositChecks.{odd_words, row50}
-use Rattle.model.specs.DepositChecks.{unlike as unlike_of}
-use Rattle.model.specs.DepositChecks.{row51, deposit_check}
+use Rattle.std.proofs.Common.{rules, ◌≡◌}
+use Rattle.numbers.specs.Scan.{first_bad}
+use Rattle.model.specs.DayFile.{series_count}
 use Rattle.model.specs.Steps.Cover.{coverable_of}
-use Rattle.classes.specs.Range.{Range}
-use Rattle.classes.specs.Starts.{start_table}
-use Rattle.classes.specs.Tables.{Day}
-use Rattle.deposit_check.specs.Unlike.{differing}
 use Rattle.deposit_check.proofs.first_coverable.Goals as goal
 use Rattle.deposit_check.specs.Unlike.{cover_at}
 use Rattle.deposit_check.specs.Unlike.{cover_end}
@@ -33,7 +23,7 @@ returns-then-coverable c =
     let x = c.args in
     sym (first-hit (coverable_of x.day.now x.c) c.loop-s.s (series_count x.day.now) c.loop-s.invariant.2
     (cover_at x.day.now x.c x.a x.b c.requires.range c.loop-s.s c.loop-s.invariant.0 (omega arith) ∙ sym c.coverable.ensures ∙ c.if-coverable.true)
-    (omega (arith, c.requires.1.end)))
+    (omega (arith, c.requires.range.end)))
 
 pub loop-s-preserved : goal.loop-s-preserved
 loop-s-preserved c =
@@ -49,4 +39,3 @@ returns c =
     let x = c.args in
     let e : x.b ≡ c.loop-s.s = omega arith in
     sym (cover_end x.day.now x.c x.a x.b c.requires.range (ap (first_bad (coverable_of x.day.now x.c)) e ∙ c.loop-s.invariant.2))
-

@@ -1,17 +1,11 @@
-use Rattle.std.proofs.Common.{rules, ◌≡◌, not, ◌<◌, eqb, ℕ, ◌+◌, ◌-◌, ◌*◌, ◌≤◌, length, ◌/◌, ◌%◌, Bool, true, false, nat_lt, List, [], ◌∷◌, ◌++◌, slice_index_or, slice_set, bit_and, bit_or, Fits, w8, w32, w64, Bor, MutBor}
-use Rattle.numbers.specs.declared.Found.TheVariants.{At}
-use Rattle.numbers.specs.Distinct.{again}
-use Rattle.numbers.specs.Scan.{first_bad, hit}
-use Rattle.model.specs.DayFile.{series_count, class_with}
-use Rattle.model.specs.Deposits.{deposit_count, named_number}
-use Rattle.model.specs.DepositChecks.{odd_words, row50}
-use Rattle.model.specs.DepositChecks.{unlike as unlike_of}
-use Rattle.model.specs.DepositChecks.{row51, deposit_check}
-use Rattle.model.specs.Steps.Cover.{coverable_of}
-use Rattle.classes.specs.Range.{Range}
-use Rattle.classes.specs.Starts.{start_table}
-use Rattle.classes.specs.Tables.{Day}
-use Rattle.deposit_check.specs.Unlike.{differing}
+use Rattle.std.proofs.Common.{arith}
+use Rattle.std.proofs.Common.{◌≡◌, ◌<◌, eqb, ℕ, List}
+use Rattle.numbers.specs.declared.Found.TheVariants.{At, Nothing}
+use Rattle.numbers.specs.Scan.{first_at}
+use Rattle.model.specs.DayFile.{class_count, class_number, class_with}
+use Rattle.model.specs.Deposits.{named_number}
+use Rattle.model.specs.DepositChecks.{row51}
+use Rattle.classes.specs.Starts.{table_range}
 use Rattle.deposit_check.proofs.unlike_class.Goals as goal
 use Rattle.deposit_check.specs.Unlike.{place_known}
 use Rattle.deposit_check.specs.Unlike.{unlike-unknown}
@@ -21,65 +15,57 @@ use Rattle.std.proofs.Common.{ap}
 use Rattle.std.proofs.Common.{sym}
 use Rattle.std.proofs.Common.{◌∙◌}
 
--- HELPER in module ((w : tie.After-class-with))
-y : tie.Start
-  y = w
+-- the class that the number names, as the code found it
+found : (d : List ℕ) (n m : ℕ) (x f : Found) → m ≡ n → x ≡ class_with d m → x ≡ f → class_with d n ≡ f
+found d n m x f a b e = ap (class_with d) (sym a) ∙ sym b ∙ e
 
--- HELPER in module ((w : tie.After-class-with))
-d : List ℕ
-  d = y.args.day.now
+inside : (d : List ℕ) (n c : ℕ) → class_with d n ≡ At c → c < class_count d
+inside d n c e = (first_at (λ c. eqb (class_number d c) n) (class_count d) c e).0
 
--- HELPER in module ((w : tie.After-class-with))
-n : ℕ
-  n = named_number y.args.deposits.now y.args.i
-
--- HELPER in module ((w : tie.After-class-with))
-found : (f : Found) → w.class-with.result ≡ f → class_with d n ≡ f
-  found f e = ap (class_with d) (sym w.named-number.ensures) ∙ sym w.class-with.ensures ∙ e
-
--- HELPER in module ((k : tie.After-c))
-w : tie.After-class-with
-  w = k
-
--- HELPER in module ((k : tie.After-c))
-class : ℕ
-  class = k.c-1.given.0.0
-
--- HELPER in module ((k : tie.After-c))
-known : class_with (d w) (n w) ≡ At class
-  known = found w (At class) k.c-1.given.1
-
--- no old: offset_bounds-starts-c (mul-unlike)
 pub offset_bounds-starts-c : goal.offset_bounds-starts-c
-offset_bounds-starts-c c = ?
+offset_bounds-starts-c c =
+    let known = found c.args.day.now (named_number c.args.deposits.now c.args.i) c.named_number.result c.class_with.result (At c.in-At.c) c.named_number.ensures c.class_with.ensures c.in-At.is in
+    let few = inside c.args.day.now (named_number c.args.deposits.now c.args.i) c.in-At.c known in
+    record { fits = omega (arith, c.requires.day.classes) }
 
--- no old: bounds-starts-c (element_copy_out-unlike)
 pub bounds-starts-c : goal.bounds-starts-c
-bounds-starts-c c = ?
+bounds-starts-c c =
+    let known = found c.args.day.now (named_number c.args.deposits.now c.args.i) c.named_number.result c.class_with.result (At c.in-At.c) c.named_number.ensures c.class_with.ensures c.in-At.is in
+    let few = inside c.args.day.now (named_number c.args.deposits.now c.args.i) c.in-At.c known in
+    omega (arith, c.requires.day.classes)
 
--- no old: overflow_add-c (add-unlike)
 pub overflow_add-c : goal.overflow_add-c
-overflow_add-c c = ?
+overflow_add-c c =
+    let known = found c.args.day.now (named_number c.args.deposits.now c.args.i) c.named_number.result c.class_with.result (At c.in-At.c) c.named_number.ensures c.class_with.ensures c.in-At.is in
+    let few = inside c.args.day.now (named_number c.args.deposits.now c.args.i) c.in-At.c known in
+    record { fits = omega (arith, c.requires.day.classes) }
 
--- no old: offset_bounds-starts-c-in-At (mul-unlike-2)
 pub offset_bounds-starts-c-in-At : goal.offset_bounds-starts-c-in-At
-offset_bounds-starts-c-in-At c = ?
+offset_bounds-starts-c-in-At c =
+    let known = found c.args.day.now (named_number c.args.deposits.now c.args.i) c.named_number.result c.class_with.result (At c.in-At.c) c.named_number.ensures c.class_with.ensures c.in-At.is in
+    let few = inside c.args.day.now (named_number c.args.deposits.now c.args.i) c.in-At.c known in
+    record { fits = omega (arith, c.requires.day.classes) }
 
--- no old: bounds-starts-c-in-At (element_copy_out-unlike-2)
 pub bounds-starts-c-in-At : goal.bounds-starts-c-in-At
-bounds-starts-c-in-At c = ?
+bounds-starts-c-in-At c =
+    let known = found c.args.day.now (named_number c.args.deposits.now c.args.i) c.named_number.result c.class_with.result (At c.in-At.c) c.named_number.ensures c.class_with.ensures c.in-At.is in
+    let few = inside c.args.day.now (named_number c.args.deposits.now c.args.i) c.in-At.c known in
+    omega (arith, c.requires.day.classes)
 
--- no old: unlike-requires-clause-range (unlike-requires)
 pub unlike-requires-clause-range : goal.unlike-requires-clause-range
-unlike-requires-clause-range c = ?
+unlike-requires-clause-range c =
+    let known = found c.args.day.now (named_number c.args.deposits.now c.args.i) c.named_number.result c.class_with.result (At c.in-At.c) c.named_number.ensures c.class_with.ensures c.in-At.is in
+    let few = inside c.args.day.now (named_number c.args.deposits.now c.args.i) c.in-At.c known in
+    table_range c.args.day.now c.args.starts.now c.in-At.c c.requires.day c.requires.starts_value few
 
 pub returns-in-At : goal.returns-in-At
 unfolding row51
 returns-in-At c =
-    c.unlike.ensures ∙ ap (unlike (d (w c))) (place_known (d (w c)) (n (w c)) (class c) (known c))
+    let known = found c.args.day.now (named_number c.args.deposits.now c.args.i) c.named_number.result c.class_with.result (At c.in-At.c) c.named_number.ensures c.class_with.ensures c.in-At.is in
+    c.unlike.ensures ∙ ap (unlike c.args.day.now) (place_known c.args.day.now (named_number c.args.deposits.now c.args.i) c.in-At.c known)
 
 pub returns-in-Nothing : goal.returns-in-Nothing
 unfolding row51
 returns-in-Nothing c =
-    unlike-unknown (d c) (n c) (y c).requires.0.rows (found c _ c.in_default.is)
-
+    unlike-unknown c.args.day.now (named_number c.args.deposits.now c.args.i) c.requires.day.rows
+    (found c.args.day.now (named_number c.args.deposits.now c.args.i) c.named_number.result c.class_with.result Nothing c.named_number.ensures c.class_with.ensures c.in-Nothing.is)
