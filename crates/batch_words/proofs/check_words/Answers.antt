@@ -1,8 +1,5 @@
-use Rattle.std.proofs.Common.{rules, ◌≡◌, ◌+◌, ◌≤◌, ◌<◌, length, ℕ, ◌-◌, ◌*◌, ◌/◌, ◌%◌, Bool, true, false, nat_eq, nat_lt, List, [], ◌∷◌, ◌++◌, slice_index_or, slice_set, bit_and, bit_or, Fits, w8, w32, w64, Bor, MutBor}
-use Rattle.numbers.specs.declared.Found.TheVariants.{Nothing}
+use Rattle.std.proofs.Common.{rules}
 use Rattle.numbers.specs.Scan.{first_bad}
-use Rattle.model.specs.Batch.{record_count, record_words, batch_words}
-use Rattle.model.specs.BatchChecks.{dvp_out_of_range, row22, row27, row28, row_of, word_row, word_check}
 use Rattle.record_words.specs.BadRecord.{bad_record}
 use Rattle.batch_words.proofs.check_words.Goals as goal
 use Rattle.batch_words.specs.Clear.{words_pass}
@@ -29,5 +26,4 @@ check_rows-requires-clause-from_value c =
 pub returns-in-Nothing : goal.returns-in-Nothing
 returns-in-Nothing c =
     let s = c.args in
-    sym (words_pass s.batch.now (ap (first_bad (bad_record s.batch.now)) (sym c.record_count-count.ensures) ∙ sym c.first_bad_record.ensures ∙ c.in_default.is))
-
+    sym (words_pass s.batch.now (ap (first_bad (bad_record s.batch.now)) (sym c.record_count-count.ensures) ∙ sym c.first_bad_record.ensures ∙ c.in-Nothing.is))

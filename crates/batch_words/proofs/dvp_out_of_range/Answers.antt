@@ -1,13 +1,7 @@
-use Rattle.std.proofs.Common.{rules, ◌≡◌, ◌+◌, ◌≤◌, ◌<◌, length, ℕ, ◌-◌, ◌*◌, ◌/◌, ◌%◌, Bool, true, false, nat_eq, nat_lt, List, [], ◌∷◌, ◌++◌, slice_index_or, slice_set, bit_and, bit_or, Fits, w8, w32, w64, Bor, MutBor}
-use Rattle.numbers.specs.declared.Found.TheVariants.{Nothing}
-use Rattle.numbers.specs.Scan.{first_bad}
-use Rattle.model.specs.Batch.{record_count, record_words, batch_words}
-use Rattle.model.specs.BatchChecks.{dvp_out_of_range, row22, row27, row28, row_of, word_row, word_check}
-use Rattle.record_words.specs.BadRecord.{bad_record}
+use Rattle.model.specs.BatchChecks.{dvp_out_of_range}
 use Rattle.batch_words.proofs.dvp_out_of_range.Goals as goal
 
 pub returns : goal.returns
 unfolding dvp_out_of_range
 returns c =
     rw (c.bits.ensures, c.payload.ensures, c.record_word.ensures, c.dvp_size.ensures.0)
-

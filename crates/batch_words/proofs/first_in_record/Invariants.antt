@@ -1,9 +1,8 @@
-use Rattle.std.proofs.Common.{◌-◌, ◌≡◌, ◌+◌, ◌≤◌, ◌<◌, length, ℕ, ◌*◌}
+use Rattle.std.proofs.Common.{◌-◌, ◌≡◌, ◌+◌, ◌≤◌}
 use Rattle.numbers.specs.declared.Found.TheVariants.{Nothing}
 use Rattle.numbers.specs.Scan.{first_bad}
-use Rattle.model.specs.Batch.{record_count, record_words, batch_words}
-use Rattle.model.specs.BatchChecks.{dvp_out_of_range, row22, row27, row28, row_of, word_row, word_check}
-use Rattle.record_words.specs.BadRecord.{bad_record}
+use Rattle.model.specs.Batch.{record_words, batch_words}
+use Rattle.model.specs.BatchChecks.{row_of}
 use Rattle.batch_words.proofs.first_in_record.Given as goal
 
 abbrev pub invariant-loop-j : goal.invariant-loop-j

@@ -1,9 +1,4 @@
-use Rattle.std.proofs.Common.{rules, ◌≡◌, ◌+◌, ◌≤◌, ◌<◌, length, ℕ, ◌-◌, ◌*◌, ◌/◌, ◌%◌, Bool, true, false, nat_eq, nat_lt, List, [], ◌∷◌, ◌++◌, slice_index_or, slice_set, bit_and, bit_or, Fits, w8, w32, w64, Bor, MutBor}
-use Rattle.numbers.specs.declared.Found.TheVariants.{Nothing}
-use Rattle.numbers.specs.Scan.{first_bad}
-use Rattle.model.specs.Batch.{record_count, record_words, batch_words}
-use Rattle.model.specs.BatchChecks.{dvp_out_of_range, row22, row27, row28, row_of, word_row, word_check}
-use Rattle.record_words.specs.BadRecord.{bad_record}
+use Rattle.model.specs.BatchChecks.{row28}
 use Rattle.batch_words.proofs.minus_zero.Goals as goal
 use Rattle.model.proofs.BatchWords.{at_word_lem}
 use Rattle.model.specs.BatchChecks.{dvp_minus_zero}
@@ -13,4 +8,3 @@ pub returns : goal.returns
 unfolding dvp_minus_zero minus_zero row28
 returns c =
     rw (at_word_lem (minus_zero c.args.batch.now) c.args.r c.args.j c.requires.j_lt_record_words, c.negative.ensures, c.record_word.ensures, c.dvp_size.ensures.0)
-
