@@ -1,8 +1,5 @@
-use Rattle.std.proofs.Common.{rules, ◌≡◌, ℕ, ◌*◌, ◌/◌, ◌≤◌, ◌<◌, pos, nat_abs, ◌+ℤ◌, get_or, ◌+◌, ◌-◌, length, ◌%◌, Bool, true, false, nat_eq, nat_lt, List, [], ◌∷◌, ◌++◌, slice_set, bit_and, bit_or, Fits, w8, w32, w64, Bor, MutBor, ℤ, ◌-ℤ◌, ◌*ℤ◌, ◌≤ℤ◌, ◌<ℤ◌, FitsSigned, to_z, of_z, ◌∙◌, to_z-of_z, sym, ap, ◌^◌, arith, mul-le-mul, le_refl, neg_ℤ}
-use Rattle.numbers.specs.Extremes.{largest as largest_of}
-use Rattle.numbers.specs.Table.{tabulate}
-use Rattle.model.specs.Steps.Additional.{after_offset}
-use Rattle.model.specs.Limits.{worth_limit, point_count, whole_offset}
+use Rattle.std.proofs.Common.{◌≡◌, ℕ, ◌*◌, ◌/◌, ◌<◌, pos, nat_abs, ◌∙◌, to_z-of_z, sym, ap, ◌^◌, arith, mul-le-mul, le_refl, neg_ℤ}
+use Rattle.model.specs.Limits.{whole_offset}
 use Rattle.additional.proofs.after_offset.Goals as goal
 use Rattle.model.proofs.Offsets.{credit-after}
 use Rattle.model.proofs.Offsets.{debit_after}
@@ -22,4 +19,3 @@ pub returns : goal.returns
 returns c =
     let e = to_z-of_z c.ranges.amount in
     e ∙ sym (debit_after c.args.o c.args.amount (rw e at c.if-amount-lt0.false))
-

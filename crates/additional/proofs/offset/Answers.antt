@@ -1,8 +1,6 @@
-use Rattle.std.proofs.Common.{rules, ◌≡◌, ℕ, ◌*◌, ◌/◌, ◌≤◌, ◌<◌, pos, nat_abs, ◌+ℤ◌, get_or, ◌+◌, ◌-◌, length, ◌%◌, Bool, true, false, nat_eq, nat_lt, List, [], ◌∷◌, ◌++◌, slice_set, bit_and, bit_or, Fits, w8, w32, w64, Bor, MutBor, ℤ, ◌-ℤ◌, ◌*ℤ◌, ◌≤ℤ◌, ◌<ℤ◌, FitsSigned, to_z, of_z, ap, ◌∙◌, arith, set}
-use Rattle.numbers.specs.Extremes.{largest as largest_of}
-use Rattle.numbers.specs.Table.{tabulate}
+use Rattle.std.proofs.Common.{rules, ◌≡◌, ℕ, pos, get_or, length, List, w64, ℤ, to_z, of_z, ap, ◌∙◌, arith, set}
 use Rattle.model.specs.Steps.Additional.{after_offset}
-use Rattle.model.specs.Limits.{worth_limit, point_count, whole_offset}
+use Rattle.model.specs.Limits.{point_count}
 use Rattle.additional.proofs.offset.Goals as goal
 use Rattle.numbers.specs.Abs.{told}
 use Rattle.numbers.specs.Filling.{filled_all}
@@ -44,4 +42,3 @@ returns c =
     let a = c.args.points.at in
     let old : ℕ → ℤ = λ k. get_or a k (pos 0) in
     c.loop-k.invariant.1 ∙ filled_all point_count (new c.args.o (a)) (old) c.loop-k.k c.loop-k-test.false
-

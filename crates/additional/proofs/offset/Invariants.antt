@@ -1,8 +1,6 @@
-use Rattle.std.proofs.Common.{◌-◌, ◌≡◌, ℕ, ◌*◌, ◌/◌, ◌≤◌, ◌<◌, pos, nat_abs, ◌+ℤ◌, get_or, ◌+◌, length, ℤ, ◌-ℤ◌, ◌*ℤ◌, ◌≤ℤ◌, ◌<ℤ◌, FitsSigned, to_z, of_z, List}
-use Rattle.numbers.specs.Extremes.{largest as largest_of}
-use Rattle.numbers.specs.Table.{tabulate}
+use Rattle.std.proofs.Common.{◌-◌, ◌≡◌, ℕ, ◌≤◌, pos, get_or, ℤ, List}
 use Rattle.model.specs.Steps.Additional.{after_offset}
-use Rattle.model.specs.Limits.{worth_limit, point_count, whole_offset}
+use Rattle.model.specs.Limits.{point_count}
 use Rattle.additional.proofs.offset.Given as goal
 use Rattle.numbers.specs.Filling.{filled}
 

@@ -1,8 +1,5 @@
-use Rattle.std.proofs.Common.{rules, ◌≡◌, ℕ, ◌*◌, ◌/◌, ◌≤◌, ◌<◌, pos, nat_abs, ◌+ℤ◌, get_or, ◌+◌, ◌-◌, length, ◌%◌, Bool, true, false, nat_eq, nat_lt, List, [], ◌∷◌, ◌++◌, slice_set, bit_and, bit_or, Fits, w8, w32, w64, Bor, MutBor, ℤ, ◌-ℤ◌, ◌*ℤ◌, ◌≤ℤ◌, ◌<ℤ◌, FitsSigned, to_z, of_z, ap, ◌∙◌, arith, set}
-use Rattle.numbers.specs.Extremes.{largest as largest_of}
-use Rattle.numbers.specs.Table.{tabulate}
-use Rattle.model.specs.Steps.Additional.{after_offset}
-use Rattle.model.specs.Limits.{worth_limit, point_count, whole_offset}
+use Rattle.std.proofs.Common.{rules, ◌≡◌, ℕ, ◌<◌, pos, ◌+ℤ◌, get_or, length, List, w64, ℤ, to_z, of_z, ap, ◌∙◌, arith, set}
+use Rattle.model.specs.Limits.{point_count}
 use Rattle.additional.proofs.plus.Goals as goal
 use Rattle.std.proofs.Common.{refl}
 use Rattle.numbers.specs.Abs.{fits_by}
@@ -41,10 +38,8 @@ loop-k-preserved c =
     let b = c.args.more.at in
     let old : ℕ → ℤ = λ k. get_or a k (pos 0) in
     let was_is : to_z w64 (of_z w64 (get_or c.loop-k.next.at c.loop-k.k (pos 0))) ≡ old c.loop-k.k = told c.was-1.given (ap (λ x. get_or x c.loop-k.k (pos 0)) c.loop-k.invariant.1 ∙ filled_at point_count (new (a) (b)) (old) c.loop-k.k (pos 0) (omega arith)) in
-    let next_is : to_z w64 (of_z w64 (get_or c.loop-k.next.at c.loop-k.k (pos 0))) +ℤ to_z w64 (of_z w64 (get_or (b) c.loop-k.k (pos 0))) ≡ new (a) (b) c.loop-k.k = λ i. was_is i +ℤ told {r = get_or (b) c.loop-k.k (pos 0)} c.amount-1.given refl i in
-    (
+    let next_is : to_z w64 (of_z w64 (get_or c.loop-k.next.at c.loop-k.k (pos 0))) +ℤ to_z w64 (of_z w64 (get_or (b) c.loop-k.k (pos 0))) ≡ new (a) (b) c.loop-k.k = λ i. was_is i +ℤ told {r = get_or (b) c.loop-k.k (pos 0)} c.amount-1.given refl i in (
       search rules,
       (λ i. set (c.loop-k.invariant.1 i) c.loop-k.k (told c.add.type_inv (c.add.ensures ∙ next_is) i))
           ∙ filled_more point_count (new (a) (b)) (old) c.loop-k.k (omega arith),
     )
-

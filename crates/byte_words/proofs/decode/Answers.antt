@@ -1,7 +1,6 @@
-use Rattle.std.proofs.Common.{rules, ◌≡◌, ◌∷◌, [], ◌+◌, ◌*◌, ◌/◌, ◌≤◌, ◌<◌, length, ℕ, ◌-◌, ◌%◌, Bool, true, false, nat_eq, nat_lt, List, ◌++◌, slice_index_or, slice_set, bit_and, bit_or, Fits, w8, w32, w64, Bor, MutBor, ◌∙◌, arith, ap, sym, take_all, set}
+use Rattle.std.proofs.Common.{◌≡◌, ◌+◌, ◌<◌, length, ℕ, List, ◌∙◌, arith, ap, sym, take_all, set}
 use Rattle.numbers.specs.Put.{put}
-use Rattle.model.specs.Bytes.{words_of, bytes_of}
-use Rattle.byte_words.specs.Words.{word_at}
+use Rattle.model.specs.Bytes.{words_of}
 use Rattle.byte_words.proofs.decode.Goals as goal
 use Rattle.byte_words.specs.Words.{words_at}
 use Rattle.model.proofs.ByteWords.{words_length}
@@ -29,4 +28,3 @@ returns c =
     let s = l in
     let b = s.args.bytes.now in
     l.loop-i.invariant.1 ∙ ap (λ (w : List ℕ). put 0 w s.args.words.now) (take_all l.loop-i.i (words_of b) (omega (arith, words_length b)))
-

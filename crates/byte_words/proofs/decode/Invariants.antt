@@ -1,7 +1,6 @@
-use Rattle.std.proofs.Common.{◌-◌, ◌≡◌, ◌∷◌, [], ◌+◌, ◌*◌, ◌/◌, ◌≤◌, ◌<◌, length, ℕ, take}
+use Rattle.std.proofs.Common.{◌-◌, ◌≡◌, ◌≤◌, take}
 use Rattle.numbers.specs.Put.{put}
-use Rattle.model.specs.Bytes.{words_of, bytes_of}
-use Rattle.byte_words.specs.Words.{word_at}
+use Rattle.model.specs.Bytes.{words_of}
 use Rattle.byte_words.proofs.decode.Given as goal
 
 abbrev pub invariant-loop-i : goal.invariant-loop-i

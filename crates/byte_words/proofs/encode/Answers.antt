@@ -1,7 +1,6 @@
-use Rattle.std.proofs.Common.{rules, ◌≡◌, ◌∷◌, [], ◌+◌, ◌*◌, ◌/◌, ◌≤◌, ◌<◌, length, ℕ, ◌-◌, ◌%◌, Bool, true, false, nat_eq, nat_lt, List, ◌++◌, slice_index_or, slice_set, bit_and, bit_or, Fits, w8, w32, w64, Bor, MutBor, arith, ◌∙◌, ap, get_or}
+use Rattle.std.proofs.Common.{◌∷◌, [], ◌*◌, arith, ◌∙◌, ap, get_or}
 use Rattle.numbers.specs.Put.{put}
-use Rattle.model.specs.Bytes.{words_of, bytes_of}
-use Rattle.byte_words.specs.Words.{word_at}
+use Rattle.model.specs.Bytes.{bytes_of}
 use Rattle.byte_words.proofs.encode.Goals as goal
 use Rattle.byte_words.specs.Words.{bytes_more}
 use Rattle.byte_words.specs.Words.{bytes_none}
@@ -18,4 +17,3 @@ loop-i-preserved c =
           ∙ ap (put (4 * l.loop-i.i) (bytes_of (get_or s.args.words.now l.loop-i.i 0 ∷ []))) l.loop-i.invariant.1
           ∙ bytes_more s.args.bytes.now s.args.words.now l.loop-i.i c.loop-i-test.true s.requires.0,
     )
-

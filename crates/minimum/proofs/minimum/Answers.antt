@@ -1,12 +1,8 @@
-use Rattle.std.proofs.Common.{rules, ◌≡◌, ◌+◌, ◌*◌, ◌≤◌, ◌<◌, pos, nat_abs, ◌*ℤ◌, length, ℕ, ◌-◌, ◌/◌, ◌%◌, Bool, true, false, nat_eq, nat_lt, List, [], ◌∷◌, ◌++◌, slice_index_or, slice_set, bit_and, bit_or, Fits, w8, w32, w64, Bor, MutBor, ℤ, ◌+ℤ◌, ◌-ℤ◌, ◌≤ℤ◌, ◌<ℤ◌, FitsSigned, to_z, of_z, get_or, ◌∙◌, arith}
+use Rattle.std.proofs.Common.{rules, ◌≡◌, ◌+◌, pos, ◌*ℤ◌, w64, ◌+ℤ◌, to_z, of_z, get_or, ◌∙◌, arith}
 use Rattle.numbers.specs.Extremes.{abs_z}
-use Rattle.numbers.specs.Table.{tabulate}
-use Rattle.model.specs.Steps.Minimum.{minimum_rate, type_net}
-use Rattle.model.specs.Steps.Minimum.{minimum as minimum_of}
-use Rattle.model.specs.Limits.{contracts_limit, price_limit}
-use Rattle.classes.specs.Tables.{entry, Given}
+use Rattle.model.specs.Steps.Minimum.{type_net}
+use Rattle.classes.specs.Tables.{entry}
 use Rattle.classes.specs.Range.{Range}
-use Rattle.model.specs.DayFile.{class_at}
 use Rattle.minimum.specs.Types.{type_slots}
 use Rattle.minimum.proofs.minimum.Goals as goal
 use Rattle.minimum.specs.Types.{minimum_end}
@@ -71,4 +67,3 @@ returns c =
     let k = c.args.book in
     let cls = c.args.c in
     c.loop-i.invariant.1 ∙ minimum_end (d) (n) (k) (cls) c.loop-i.i (omega arith)
-

@@ -1,12 +1,6 @@
-use Rattle.std.proofs.Common.{rules, ◌≡◌, ◌+◌, ◌*◌, ◌≤◌, ◌<◌, pos, nat_abs, ◌*ℤ◌, length, ℕ, ◌-◌, ◌/◌, ◌%◌, Bool, true, false, nat_eq, nat_lt, List, [], ◌∷◌, ◌++◌, slice_index_or, slice_set, bit_and, bit_or, Fits, w8, w32, w64, Bor, MutBor, ℤ, ◌+ℤ◌, ◌-ℤ◌, ◌≤ℤ◌, ◌<ℤ◌, FitsSigned, to_z, of_z, ◌∙◌, get_or, arith, set}
-use Rattle.numbers.specs.Extremes.{abs_z}
-use Rattle.numbers.specs.Table.{tabulate}
-use Rattle.model.specs.Steps.Minimum.{minimum_rate, type_net}
-use Rattle.model.specs.Steps.Minimum.{minimum as minimum_of}
-use Rattle.model.specs.Limits.{contracts_limit, price_limit}
-use Rattle.classes.specs.Tables.{entry, Given}
+use Rattle.std.proofs.Common.{rules, ◌≡◌, ◌<◌, pos, w64, ◌+ℤ◌, to_z, of_z, ◌∙◌, get_or, arith, set}
+use Rattle.classes.specs.Tables.{entry}
 use Rattle.classes.specs.Range.{Range}
-use Rattle.model.specs.DayFile.{class_at}
 use Rattle.minimum.specs.Types.{type_slots}
 use Rattle.minimum.proofs.type_nets.Goals as goal
 use Rattle.classes.specs.Sizes.{net-size}
@@ -60,8 +54,7 @@ loop-s-preserved c =
     let cls = c.args.c in
     let r : Range d cls c.args.a c.args.b = c.requires.range in
     let type_is : c.index-t.result ≡ (series_type (d) c.loop-s.s) = c.index-t.ensures ∙ c.series_type.ensures in
-    let next_is : to_z w64 (of_z w64 (get_or c.loop-s.sums c.index-t.result (pos 0))) +ℤ to_z w64 (of_z w64 c.position_amount.result) ≡ (type_to (d) (n) (k) (cls) c.loop-s.s (series_type (d) c.loop-s.s) +ℤ open_net (n) (k) c.loop-s.s) = λ i. told c.was-1.given ((λ j. get_or (c.loop-s.invariant.2 j) (type_is j) (pos 0)) ∙ get_or-tabulate type_slots (type_to (d) (n) (k) (cls) c.loop-s.s) (series_type (d) c.loop-s.s) (pos 0) (omega arith)) i +ℤ told c.position_amount.type_inv c.position_amount.ensures i in
-    (
+    let next_is : to_z w64 (of_z w64 (get_or c.loop-s.sums c.index-t.result (pos 0))) +ℤ to_z w64 (of_z w64 c.position_amount.result) ≡ (type_to (d) (n) (k) (cls) c.loop-s.s (series_type (d) c.loop-s.s) +ℤ open_net (n) (k) c.loop-s.s) = λ i. told c.was-1.given ((λ j. get_or (c.loop-s.invariant.2 j) (type_is j) (pos 0)) ∙ get_or-tabulate type_slots (type_to (d) (n) (k) (cls) c.loop-s.s) (series_type (d) c.loop-s.s) (pos 0) (omega arith)) i +ℤ told c.position_amount.type_inv c.position_amount.ensures i in (
       search rules,
       search rules,
       (λ i. set (c.loop-s.invariant.2 i) (type_is i) (told c.add.type_inv (c.add.ensures ∙ next_is) i))
@@ -76,4 +69,3 @@ returns c =
     let cls = c.args.c in
     let r : Range d cls c.args.a c.args.b = c.requires.range in
     c.loop-s.invariant.2 ∙ types_end (d) (n) (k) (cls) c.args.a c.args.b (r) c.loop-s.s (omega arith)
-

@@ -1,9 +1,6 @@
-use Rattle.std.proofs.Common.{rules, ◌≡◌, cond, ◌<◌, pos, ℕ, ◌+◌, ◌-◌, ◌*◌, ◌≤◌, length, ◌/◌, ◌%◌, Bool, true, false, nat_eq, nat_lt, List, [], ◌∷◌, ◌++◌, slice_index_or, slice_set, bit_and, bit_or, Fits, w8, w32, w64, Bor, MutBor, ℤ, ◌+ℤ◌, ◌-ℤ◌, ◌*ℤ◌, ◌≤ℤ◌, ◌<ℤ◌, FitsSigned, to_z, of_z, ◌∙◌, arith}
-use Rattle.model.specs.DayFile.{series_count, series_type, is_security}
-use Rattle.model.specs.Steps.Mtm.{mtm_of}
-use Rattle.model.specs.Steps.Mtm.{mtm as mtm_sum}
-use Rattle.model.proofs.Records.{Budget}
-use Rattle.classes.specs.Tables.{entry, Given}
+use Rattle.std.proofs.Common.{rules, ◌≡◌, ◌+◌, ◌≤◌, w64, ◌+ℤ◌, to_z, of_z, ◌∙◌, arith}
+use Rattle.model.specs.DayFile.{series_count}
+use Rattle.classes.specs.Tables.{entry}
 use Rattle.classes.specs.Range.{Range}
 use Rattle.mtm.proofs.mtm.Goals as goal
 use Rattle.model.proofs.Bounds.{mtm_so_far}
@@ -57,4 +54,3 @@ returns c =
     let cls = c.args.c in
     let r : Range d cls c.args.a c.args.b = c.requires.range in
     c.loop-s.invariant.2 ∙ mtm_end (d) (n) (v) (k) (cls) c.args.a c.args.b (r) c.loop-s.s (omega arith)
-

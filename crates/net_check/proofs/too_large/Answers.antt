@@ -1,11 +1,5 @@
-use Rattle.std.proofs.Common.{rules, ◌≡◌, ◌<◌, ℕ, ◌+◌, ◌-◌, ◌*◌, ◌≤◌, length, ◌/◌, ◌%◌, Bool, true, false, nat_eq, nat_lt, List, [], ◌∷◌, ◌++◌, slice_index_or, slice_set, bit_and, bit_or, Fits, w8, w32, w64, Bor, MutBor, ℤ, pos, ◌+ℤ◌, ◌-ℤ◌, ◌*ℤ◌, ◌≤ℤ◌, ◌<ℤ◌, FitsSigned, to_z, of_z, arith, get_or, ◌^◌, nat_abs, ap, ◌∙◌, ltb, mul-le-mul}
-use Rattle.numbers.specs.Scan.{first_bad}
-use Rattle.numbers.specs.Table.{tabulate}
-use Rattle.model.specs.Batch.{record_count}
-use Rattle.model.specs.Netting.{net as net_of}
-use Rattle.model.specs.Netting.{position_count, row30, netting_check}
-use Rattle.netting.specs.Limits.{Limited}
-use Rattle.net_check.specs.Sizes.{Placed}
+use Rattle.std.proofs.Common.{◌≡◌, ℕ, ◌*◌, ◌≤◌, length, ◌%◌, w64, pos, to_z, of_z, arith, get_or, ◌^◌, nat_abs, ap, ◌∙◌, ltb, mul-le-mul}
+use Rattle.model.specs.Netting.{position_count, row30}
 use Rattle.net_check.proofs.too_large.Goals as goal
 use Rattle.model.specs.Batch.{key}
 use Rattle.model.specs.Batch.{place}
@@ -57,4 +51,3 @@ returns c =
     let placed : c.key-k.result % places ≡ place b r = omega (arith, c.key-k.ensures) in
     let wide_is : c.wide-per_contract.result ≡ multiplier (d) (place (b) (r)) = c.wide-per_contract.ensures ∙ c.multiplier.ensures ∙ ap (multiplier (d)) (placed) in
     c.position_too_large.ensures ∙ (λ i. ltb position_limit (size_is i * wide_is i))
-

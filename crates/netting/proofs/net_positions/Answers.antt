@@ -1,7 +1,7 @@
-use Rattle.std.proofs.Common.{◌≡◌, ℕ, ◌+◌, ◌<◌, ◌≤◌, length, ap, ◌∙◌, arith}
+use Rattle.std.proofs.Common.{◌≡◌, ◌<◌, ap, ◌∙◌, arith}
 use Rattle.numbers.specs.Abs.{told}
 use Rattle.numbers.specs.Slots.{slots, slots-none}
-use Rattle.model.specs.Batch.{record_count, key, dvp_amount, batch_words}
+use Rattle.model.specs.Batch.{record_count, key, dvp_amount}
 use Rattle.model.specs.Netting.{net, dvp, position_count}
 use Rattle.netting.specs.Laws.{change, slot_inside, slot_added, slot_fits, change_limit}
 use Rattle.netting.proofs.net_positions.Goals as goal
@@ -19,8 +19,8 @@ add_at-requires c =
     record {
       k_in_bounds = slot_inside position_count (key b) (change b) c.loop-r.nets c.loop-r.r c.key-k.result _ c.loop-r.invariant.1 c.key-k.ensures z (omega arith);
       sfits =
-        slot_fits position_count (key b) (change b) c.loop-r.nets c.loop-r.r c.key-k.result _ c.loop-r.invariant.1 c.key-k.ensures z (omega arith)
-        (record_count b) below c.requires.limited.few (change_limit b c.requires.limited);
+          slot_fits position_count (key b) (change b) c.loop-r.nets c.loop-r.r c.key-k.result _ c.loop-r.invariant.1 c.key-k.ensures z (omega arith)
+          (record_count b) below c.requires.limited.few (change_limit b c.requires.limited);
     }
 
 pub add_at-requires-in-loop-r : goal.add_at-requires-in-loop-r
@@ -31,8 +31,8 @@ add_at-requires-in-loop-r c =
     record {
       k_in_bounds = slot_inside position_count (key b) (dvp_amount b) c.loop-r.dvps c.loop-r.r c.key-k.result _ c.loop-r.invariant.2 c.key-k.ensures z (omega arith);
       sfits =
-        slot_fits position_count (key b) (dvp_amount b) c.loop-r.dvps c.loop-r.r c.key-k.result _ c.loop-r.invariant.2 c.key-k.ensures z (omega arith)
-        (record_count b) below c.requires.limited.few c.requires.limited.dvps;
+          slot_fits position_count (key b) (dvp_amount b) c.loop-r.dvps c.loop-r.r c.key-k.result _ c.loop-r.invariant.2 c.key-k.ensures z (omega arith)
+          (record_count b) below c.requires.limited.few c.requires.limited.dvps;
     }
 
 pub loop-r-preserved : goal.loop-r-preserved

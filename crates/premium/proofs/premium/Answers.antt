@@ -1,8 +1,6 @@
-use Rattle.std.proofs.Common.{rules, ◌≡◌, cond, ◌<◌, pos, ℕ, ◌+◌, ◌-◌, ◌*◌, ◌≤◌, length, ◌/◌, ◌%◌, Bool, true, false, nat_eq, nat_lt, List, [], ◌∷◌, ◌++◌, slice_index_or, slice_set, bit_and, bit_or, Fits, w8, w32, w64, Bor, MutBor, ℤ, ◌+ℤ◌, ◌-ℤ◌, ◌*ℤ◌, ◌≤ℤ◌, ◌<ℤ◌, FitsSigned, to_z, of_z, ◌∙◌, arith}
-use Rattle.model.specs.DayFile.{class_count, series_count, series_type, is_option}
-use Rattle.model.specs.Steps.Premium.{in_the_money, premium_of}
-use Rattle.model.specs.Steps.Premium.{premium as premium_sum}
-use Rattle.classes.specs.Tables.{entry, Day, Given}
+use Rattle.std.proofs.Common.{rules, ◌≡◌, ◌+◌, ◌≤◌, w64, ◌+ℤ◌, to_z, of_z, ◌∙◌, arith}
+use Rattle.model.specs.DayFile.{series_count}
+use Rattle.classes.specs.Tables.{entry}
 use Rattle.classes.specs.Range.{Range}
 use Rattle.premium.proofs.premium.Goals as goal
 use Rattle.model.proofs.Bounds.{premium_so_far}
@@ -53,4 +51,3 @@ returns c =
     let cls = c.args.c in
     let r : Range d cls c.args.a c.args.b = c.requires.range in
     c.loop-s.invariant.2 ∙ premium_end (d) (n) (k) (cls) c.args.a c.args.b (r) c.loop-s.s (omega arith)
-

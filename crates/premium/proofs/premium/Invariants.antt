@@ -1,9 +1,5 @@
-use Rattle.std.proofs.Common.{◌-◌, ◌≡◌, cond, ◌<◌, pos, ℕ, ◌+◌, ◌*◌, ◌≤◌, length, ℤ, ◌+ℤ◌, ◌-ℤ◌, ◌*ℤ◌, ◌≤ℤ◌, ◌<ℤ◌, FitsSigned, to_z, of_z}
-use Rattle.model.specs.DayFile.{class_count, series_count, series_type, is_option}
-use Rattle.model.specs.Steps.Premium.{in_the_money, premium_of}
-use Rattle.model.specs.Steps.Premium.{premium as premium_sum}
-use Rattle.classes.specs.Tables.{entry, Day, Given}
-use Rattle.classes.specs.Range.{Range}
+use Rattle.std.proofs.Common.{◌-◌, ◌≡◌, ◌≤◌}
+use Rattle.classes.specs.Tables.{entry}
 use Rattle.premium.proofs.premium.Given as goal
 use Rattle.premium.specs.Laws.{premium_to}
 

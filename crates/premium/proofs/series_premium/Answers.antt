@@ -1,9 +1,6 @@
-use Rattle.std.proofs.Common.{rules, ◌≡◌, cond, ◌<◌, pos, ℕ, ◌+◌, ◌-◌, ◌*◌, ◌≤◌, length, ◌/◌, ◌%◌, Bool, true, false, nat_eq, nat_lt, List, [], ◌∷◌, ◌++◌, slice_index_or, slice_set, bit_and, bit_or, Fits, w8, w32, w64, Bor, MutBor, ℤ, ◌+ℤ◌, ◌-ℤ◌, ◌*ℤ◌, ◌≤ℤ◌, ◌<ℤ◌, FitsSigned, to_z, of_z, arith, ◌∙◌, ap}
-use Rattle.model.specs.DayFile.{class_count, series_count, series_type, is_option}
+use Rattle.std.proofs.Common.{rules, ◌≡◌, pos, w64, ◌+ℤ◌, to_z, of_z, arith, ◌∙◌, ap}
 use Rattle.model.specs.Steps.Premium.{in_the_money, premium_of}
-use Rattle.model.specs.Steps.Premium.{premium as premium_sum}
-use Rattle.classes.specs.Tables.{entry, Day, Given}
-use Rattle.classes.specs.Range.{Range}
+use Rattle.classes.specs.Tables.{entry}
 use Rattle.premium.proofs.series_premium.Goals as goal
 use Rattle.classes.specs.Sizes.{contracts_size}
 use Rattle.model.proofs.Limits.{closing_limit}
@@ -24,7 +21,7 @@ worth-open-requires c =
     let n = entry c.args.nets.now in
     let net_is : to_z w64 (of_z w64 c.position_amount-net.result) ≡ (open_net (n) (k) (s)) = told c.position_amount-net.type_inv c.position_amount-net.ensures in
     let price_is : to_z w64 (of_z w64 c.signed-price.result) ≡ (pos (closing (d) (s))) = told c.signed-price.type_inv (c.signed-price.ensures ∙ ap pos c.closing.ensures) in
-    let h = c.requires.book_bound in record { s_in_bounds = search rules; s_bound = ( rw (net_is) (contracts_size (d) c.args.nets.now c.requires.given (k) 0 (s) h.0 (omega arith) h.2), rw (price_is) (closing_limit (d) c.requires.given.day.rows (s) h.2), ) }
+    let h = c.requires.book_bound in record { s_in_bounds = search rules; s_bound = (rw (net_is) (contracts_size (d) c.args.nets.now c.requires.given (k) 0 (s) h.0 (omega arith) h.2), rw (price_is) (closing_limit (d) c.requires.given.day.rows (s) h.2)) }
 
 pub worth-exercised-requires : goal.worth-exercised-requires
 worth-exercised-requires c =
@@ -35,7 +32,7 @@ worth-exercised-requires c =
     let n = entry c.args.nets.now in
     let exercised_net_is : to_z w64 (of_z w64 c.position_amount-exercised_net.result) ≡ (exercised_net (n) (k) (s)) = told c.position_amount-exercised_net.type_inv c.position_amount-exercised_net.ensures in
     let money_is : to_z w64 (of_z w64 c.in_the_money-value.result) ≡ (in_the_money (d) (cls) (s)) = told c.in_the_money-value.type_inv c.in_the_money-value.ensures in
-    let h = c.requires.book_bound in record { s_in_bounds = search rules; s_bound = ( rw (exercised_net_is) (contracts_size (d) c.args.nets.now c.requires.given (k) 1 (s) h.0 (omega arith) h.2), rw (money_is) (money_size (d) c.requires.given.day.rows (cls) (s) h.1 h.2).1, ) }
+    let h = c.requires.book_bound in record { s_in_bounds = search rules; s_bound = (rw (exercised_net_is) (contracts_size (d) c.args.nets.now c.requires.given (k) 1 (s) h.0 (omega arith) h.2), rw (money_is) (money_size (d) c.requires.given.day.rows (cls) (s) h.1 h.2).1) }
 
 pub add-requires : goal.add-requires
 add-requires c =
@@ -50,4 +47,3 @@ add-requires c =
     let money_is : to_z w64 (of_z w64 c.in_the_money-value.result) ≡ (in_the_money (d) (cls) (s)) = told c.in_the_money-value.type_inv c.in_the_money-value.ensures in
     let value_is : to_z w64 (of_z w64 c.worth-open.result) +ℤ to_z w64 (of_z w64 c.worth-exercised.result) ≡ (premium_of (d) (n) (k) (cls) (s)) = λ i. told c.worth-open.type_inv (c.worth-open.ensures ∙ (λ j. worth (d) (s) (net_is j) (price_is j))) i +ℤ told c.worth-exercised.type_inv (c.worth-exercised.ensures ∙ (λ j. worth (d) (s) (exercised_net_is j) (money_is j))) i in
     fits_by (value_is) (premium_fits (d) c.args.nets.now c.requires.given (k) (s) c.requires.book_bound.0 c.requires.book_bound.2 (cls) c.requires.book_bound.1)
-

@@ -1,14 +1,6 @@
-use Rattle.std.proofs.Common.{rules, ◌≡◌, ◌+◌, ◌*◌, ◌≤◌, ◌<◌, ℕ, ◌-◌, length, ◌/◌, ◌%◌, Bool, true, false, nat_eq, nat_lt, List, [], ◌∷◌, ◌++◌, slice_index_or, slice_set, bit_and, bit_or, Fits, w8, w32, w64, Bor, MutBor, arith, ℤ}
-use Rattle.numbers.specs.Scan.{any_below}
-use Rattle.numbers.specs.Table.{tabulate}
-use Rattle.model.specs.Netting.{position, places}
-use Rattle.model.specs.Steps.Positions.{held}
-use Rattle.model.specs.Steps.Lines.{has_line}
-use Rattle.model.proofs.Accepted.{DayRows}
+use Rattle.std.proofs.Common.{rules, ◌+◌, ℕ, Bool, List, arith, ℤ}
 use Rattle.classes.specs.Tables.{entry}
-use Rattle.classes.specs.Starts.{start_table, starts}
-use Rattle.presence.specs.Presence.{held_at, group_flags}
-use Rattle.model.specs.Limits.{most_series}
+use Rattle.presence.specs.Presence.{held_at}
 use Rattle.presence.proofs.any_held.Goals as goal
 use Rattle.numbers.specs.Scan.{first-zero}
 use Rattle.numbers.specs.Scan.{scan_hits}
@@ -31,4 +23,3 @@ pub loop-i-preserved : goal.loop-i-preserved
 loop-i-preserved c =
     let at = test c.args.nets.now c.args.dvps.now c.args.book c.args.a in
     (search rules, scan_more (at) c.loop-i.i _ c.loop-i.invariant.1 c.series_held.ensures c.if-series_held.false)
-

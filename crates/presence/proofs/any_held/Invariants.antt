@@ -1,14 +1,6 @@
-use Rattle.std.proofs.Common.{◌-◌, ◌≡◌, ◌+◌, ◌*◌, ◌≤◌, ◌<◌, ℕ, length, List, ℤ, Bool}
-use Rattle.numbers.specs.Scan.{any_below}
-use Rattle.numbers.specs.Table.{tabulate}
-use Rattle.model.specs.Netting.{position, places}
-use Rattle.model.specs.Steps.Positions.{held}
-use Rattle.model.specs.Steps.Lines.{has_line}
-use Rattle.model.proofs.Accepted.{DayRows}
+use Rattle.std.proofs.Common.{◌-◌, ◌≡◌, ◌+◌, ◌≤◌, ℕ, List, ℤ, Bool}
 use Rattle.classes.specs.Tables.{entry}
-use Rattle.classes.specs.Starts.{start_table, starts}
-use Rattle.presence.specs.Presence.{held_at, group_flags}
-use Rattle.model.specs.Limits.{most_series}
+use Rattle.presence.specs.Presence.{held_at}
 use Rattle.presence.proofs.any_held.Given as goal
 use Rattle.numbers.specs.Scan.{first_bad}
 use Rattle.numbers.specs.declared.Found.TheVariants.{Nothing}

@@ -1,14 +1,7 @@
-use Rattle.std.proofs.Common.{rules, ◌≡◌, ◌+◌, ◌*◌, ◌≤◌, ◌<◌, ℕ, ◌-◌, length, ◌/◌, ◌%◌, Bool, true, false, nat_eq, nat_lt, List, [], ◌∷◌, ◌++◌, slice_index_or, slice_set, bit_and, bit_or, Fits, w8, w32, w64, Bor, MutBor, get_or, arith, ap, ◌∙◌, set, ◌||◌}
-use Rattle.numbers.specs.Scan.{any_below}
-use Rattle.numbers.specs.Table.{tabulate}
-use Rattle.model.specs.Netting.{position, places}
-use Rattle.model.specs.Steps.Positions.{held}
-use Rattle.model.specs.Steps.Lines.{has_line}
-use Rattle.model.proofs.Accepted.{DayRows}
+use Rattle.std.proofs.Common.{rules, ◌≡◌, ◌+◌, ◌<◌, ℕ, ◌-◌, false, get_or, arith, ap, ◌∙◌, set, ◌||◌}
 use Rattle.classes.specs.Tables.{entry}
-use Rattle.classes.specs.Starts.{start_table, starts}
-use Rattle.presence.specs.Presence.{held_at, group_flags}
-use Rattle.model.specs.Limits.{most_series}
+use Rattle.classes.specs.Starts.{starts}
+use Rattle.presence.specs.Presence.{group_flags}
 use Rattle.presence.proofs.groups_held.Goals as goal
 use Rattle.classes.specs.Range.{Range}
 use Rattle.classes.specs.Range.{start_of}
@@ -98,4 +91,3 @@ returns c =
     let v = entry c.args.dvps.now in
     let e : c.loop-c.c ≡ class_count (d) = omega arith in
     c.loop-c.invariant.1 ∙ ap (groups_to (d) n v c.args.book) e ∙ groups_are (d) n v c.args.book c.requires.day_rows
-

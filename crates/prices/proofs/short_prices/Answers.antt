@@ -1,9 +1,4 @@
-use Rattle.std.proofs.Common.{rules, ◌≡◌, ◌+◌, ◌*◌, max, ◌≤◌, ◌<◌, length, get_or, set, ℕ, ◌-◌, ◌/◌, ◌%◌, Bool, true, false, nat_eq, nat_lt, List, [], ◌∷◌, ◌++◌, bit_and, bit_or, Fits, w8, w32, w64, Bor, MutBor, ◌∙◌, sym, ap}
-use Rattle.numbers.specs.Table.{tabulate}
-use Rattle.model.specs.Words.{payload as payload_of}
-use Rattle.model.specs.DayFile.{theoretical, projected, class_at, series_at}
-use Rattle.model.specs.Steps.Prices.{short_price, open_price}
-use Rattle.model.specs.Limits.{point_count}
+use Rattle.std.proofs.Common.{◌≡◌, max, get_or, set, ℕ, List, ◌∙◌, sym, ap}
 use Rattle.prices.proofs.short_prices.Goals as goal
 use Rattle.model.specs.DayFile.{is_call}
 use Rattle.model.specs.DayFile.{is_put}
@@ -33,4 +28,3 @@ pub returns : goal.returns
 returns c =
     c.theoretical_prices-prices.ensures
     ∙ short_other c.args.day.now c.args.s ((let call_is_h : is_call (series_type c.args.day.now c.args.s) ≡ c.is_call.result = sym (c.is_call.ensures ∙ ap is_call c.series_type-t.ensures) in call_is_h) ∙ c.if-is_call.false) ((let put_is_h : is_put (series_type c.args.day.now c.args.s) ≡ c.is_put.result = sym (c.is_put.ensures ∙ ap is_put c.series_type-t.ensures) in put_is_h) ∙ c.if-is_put.false)
-

@@ -1,6 +1,6 @@
-use Rattle.std.proofs.Common.{◌≡◌, ℕ, ◌<◌, List, ℤ, pos, ◌+ℤ◌, get_or, length, to_z, of_z, set, ap, ◌∙◌, refl, arith, rules}
+use Rattle.std.proofs.Common.{◌≡◌, ◌<◌, pos, ◌+ℤ◌, get_or, length, to_z, of_z, set, ap, ◌∙◌, refl, arith, rules}
 use Rattle.std.specs.Int.{w64}
-use Rattle.model.specs.Limits.{point_count, worth_limit}
+use Rattle.model.specs.Limits.{point_count}
 use Rattle.numbers.specs.Abs.{back, fits_by, nat_abs-+, told}
 use Rattle.numbers.specs.Filling.{filled_all, filled_at, filled_more, filled_none, tabulate-get_or}
 use Rattle.accumulator.specs.Added.{change_amount, added_at, change-size}

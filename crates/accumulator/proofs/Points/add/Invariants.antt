@@ -1,7 +1,5 @@
-use Rattle.std.proofs.Common.{◌-◌, ◌≡◌, ℕ, ◌≤◌, ◌<◌, ltb, pos, nat_abs, get_or, ◌+◌, ◌*◌, length, ℤ, ◌+ℤ◌, ◌-ℤ◌, ◌*ℤ◌, ◌≤ℤ◌, ◌<ℤ◌, FitsSigned, to_z, of_z}
-use Rattle.numbers.specs.Table.{tabulate}
-use Rattle.model.specs.Limits.{price_limit, position_limit, contracts_limit, running_limit, point_count}
-use Rattle.accumulator.specs.Added.{change_amount, added}
+use Rattle.std.proofs.Common.{◌-◌, ◌≡◌, ◌≤◌, pos, get_or}
+use Rattle.model.specs.Limits.{point_count}
 use Rattle.accumulator.proofs.Points.add.Given as goal
 use Rattle.accumulator.specs.Added.{added_at}
 use Rattle.numbers.specs.Filling.{filled}

@@ -1,11 +1,5 @@
-use Rattle.std.proofs.Common.{rules, ◌≡◌, ◌≤◌, ◌<◌, ℕ, ◌+◌, ◌-◌, ◌*◌, length, ◌/◌, ◌%◌, Bool, true, false, nat_eq, nat_lt, List, [], ◌∷◌, ◌++◌, slice_index_or, slice_set, bit_and, bit_or, Fits, w8, w32, w64, Bor, MutBor, ◌∙◌, arith}
-use Rattle.numbers.specs.declared.Found.TheVariants.{Nothing}
-use Rattle.numbers.specs.Scan.{first_bad}
-use Rattle.model.specs.DayFile.{class_count, series_count}
-use Rattle.model.proofs.Accepted.{DayRows}
-use Rattle.classes.specs.Tables.{Day}
-use Rattle.classes.specs.Range.{start_of}
-use Rattle.classes.specs.Starts.{reached, start_table}
+use Rattle.std.proofs.Common.{rules, ◌∙◌, arith}
+use Rattle.classes.specs.Starts.{reached}
 use Rattle.classes.proofs.starts.start.Goals as goal
 use Rattle.classes.specs.Starts.{start_hit}
 use Rattle.classes.specs.Starts.{start_none}
@@ -16,14 +10,12 @@ returns-then-reaches c =
     start_hit c.args.day.now c.args.c c.loop-s.s c.loop-s.invariant.2 _ c.reaches.ensures c.if-reaches.true (omega arith)
 
 pub loop-s-preserved : goal.loop-s-preserved
-loop-s-preserved c =
-    (
-      search rules,
-      search rules,
-      scan_more (reached c.args.day.now c.args.c) c.loop-s.s _ c.loop-s.invariant.2 c.reaches.ensures c.if-reaches.false,
-    )
+loop-s-preserved c = (
+  search rules,
+  search rules,
+  scan_more (reached c.args.day.now c.args.c) c.loop-s.s _ c.loop-s.invariant.2 c.reaches.ensures c.if-reaches.false,
+)
 
 pub returns : goal.returns
 returns c =
     c.loop-s.invariant.0 ∙ start_none c.args.day.now c.args.c c.loop-s.s c.loop-s.invariant.2 (omega arith) (omega arith)
-

@@ -1,11 +1,7 @@
-use Rattle.std.proofs.Common.{rules, ◌≡◌, ◌≤◌, ◌<◌, ℕ, ◌+◌, ◌-◌, ◌*◌, length, ◌/◌, ◌%◌, Bool, true, false, nat_eq, nat_lt, List, [], ◌∷◌, ◌++◌, slice_index_or, slice_set, bit_and, bit_or, Fits, w8, w32, w64, Bor, MutBor, set, ◌∙◌, arith, ap}
-use Rattle.numbers.specs.declared.Found.TheVariants.{Nothing}
-use Rattle.numbers.specs.Scan.{first_bad}
-use Rattle.model.specs.DayFile.{class_count, series_count}
-use Rattle.model.proofs.Accepted.{DayRows}
-use Rattle.classes.specs.Tables.{Day}
+use Rattle.std.proofs.Common.{rules, ℕ, set, ◌∙◌, arith, ap}
+use Rattle.model.specs.DayFile.{series_count}
 use Rattle.classes.specs.Range.{start_of}
-use Rattle.classes.specs.Starts.{reached, start_table}
+use Rattle.classes.specs.Starts.{reached}
 use Rattle.classes.proofs.starts.starts.Goals as goal
 use Rattle.classes.specs.Range.{cut}
 use Rattle.classes.specs.Starts.{next_start}
@@ -49,4 +45,3 @@ loop-c-preserved c =
 pub returns : goal.returns
 returns c =
     c.loop-c.invariant.1 ∙ starts_all c.args.day.now c.requires c.loop-c.c (omega arith)
-

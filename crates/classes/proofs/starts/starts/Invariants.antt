@@ -1,11 +1,9 @@
-use Rattle.std.proofs.Common.{◌-◌, ◌≡◌, ◌≤◌, ◌<◌, ℕ, ◌+◌, ◌*◌, length}
+use Rattle.std.proofs.Common.{◌-◌, ◌≡◌, ◌≤◌}
 use Rattle.numbers.specs.declared.Found.TheVariants.{Nothing}
 use Rattle.numbers.specs.Scan.{first_bad}
-use Rattle.model.specs.DayFile.{class_count, series_count}
-use Rattle.model.proofs.Accepted.{DayRows}
-use Rattle.classes.specs.Tables.{Day}
+use Rattle.model.specs.DayFile.{series_count}
 use Rattle.classes.specs.Range.{start_of}
-use Rattle.classes.specs.Starts.{reached, start_table}
+use Rattle.classes.specs.Starts.{reached}
 use Rattle.classes.proofs.starts.starts.Given as goal
 use Rattle.classes.specs.Starts.{starts as start_count}
 use Rattle.numbers.specs.Filling.{filled}

@@ -1,8 +1,6 @@
-use Rattle.std.proofs.Common.{rules, ◌≡◌, ◌<◌, ℕ, ◌+◌, ◌-◌, ◌*◌, ◌≤◌, length, ◌/◌, ◌%◌, Bool, true, false, nat_eq, nat_lt, List, [], ◌∷◌, ◌++◌, slice_index_or, slice_set, bit_and, bit_or, Fits, w8, w32, w64, Bor, MutBor, ℤ, pos, ◌+ℤ◌, ◌-ℤ◌, ◌*ℤ◌, ◌≤ℤ◌, ◌<ℤ◌, FitsSigned, to_z, of_z, arith, ◌∙◌, to_z-of_z, ap, get_or}
+use Rattle.std.proofs.Common.{rules, ◌<◌, ◌≤◌, List, ℤ, pos, ◌+ℤ◌, arith, ◌∙◌, to_z-of_z, ap, get_or}
 use Rattle.numbers.specs.Table.{tabulate}
-use Rattle.model.specs.Steps.Spread.{spread_quantity}
-use Rattle.model.specs.Steps.Points.{class_point}
-use Rattle.classes.specs.Tables.{entry, Given}
+use Rattle.classes.specs.Tables.{entry}
 use Rattle.classes.specs.Range.{Range}
 use Rattle.model.specs.Limits.{point_count}
 use Rattle.points.proofs.class_points.class_points.Goals as goal
@@ -27,8 +25,7 @@ loop-s-init c =
     let n = entry c.args.nets.now in
     let k = c.args.book in
     let cls = c.args.c in
-    let r : Range d cls c.args.a c.args.b = c.requires.range in
-    (
+    let r : Range d cls c.args.a c.args.b = c.requires.range in (
       search rules,
       search rules,
       c.new-sum.ensures ∙ points_start (d) (n) (k) (cls) c.args.a c.args.b (r),
@@ -50,7 +47,7 @@ add-before-requires c =
     let k = c.args.book in
     let cls = c.args.c in
     let r : Range d cls c.args.a c.args.b = c.requires.range in
-    let m : c.loop-s.s ≤ series_count (d) = omega arith in record { given = search rules; book_bound = search rules; short_bound = ( rw c.loop-s.invariant.3 (short-size (d) c.args.nets.now c.requires.given (k) (cls) c.requires.book_bound (r).class c.loop-s.s m), rw c.loop-s.invariant.4 (long-size (d) c.args.nets.now c.requires.given (k) (cls) c.requires.book_bound (r).class c.loop-s.s m), ) }
+    let m : c.loop-s.s ≤ series_count (d) = omega arith in record { given = search rules; book_bound = search rules; short_bound = (rw c.loop-s.invariant.3 (short-size (d) c.args.nets.now c.requires.given (k) (cls) c.requires.book_bound (r).class c.loop-s.s m), rw c.loop-s.invariant.4 (long-size (d) c.args.nets.now c.requires.given (k) (cls) c.requires.book_bound (r).class c.loop-s.s m)) }
 
 pub loop-s-preserved : goal.loop-s-preserved
 loop-s-preserved c =
@@ -80,4 +77,3 @@ returns c =
     let cls = c.args.c in
     let r : Range d cls c.args.a c.args.b = c.requires.range in
     c.loop-s.invariant.2 ∙ points_end (d) (n) (k) (cls) c.args.a c.args.b (r) c.loop-s.s (omega arith)
-

@@ -1,10 +1,5 @@
-use Rattle.std.proofs.Common.{◌-◌, ◌≡◌, ◌<◌, ℕ, ◌+◌, ◌*◌, ◌≤◌, length, ℤ, pos, ◌+ℤ◌, ◌-ℤ◌, ◌*ℤ◌, ◌≤ℤ◌, ◌<ℤ◌, FitsSigned, to_z, of_z}
-use Rattle.numbers.specs.Table.{tabulate}
-use Rattle.model.specs.Steps.Spread.{spread_quantity}
-use Rattle.model.specs.Steps.Points.{class_point}
-use Rattle.classes.specs.Tables.{entry, Given}
-use Rattle.classes.specs.Range.{Range}
-use Rattle.model.specs.Limits.{point_count}
+use Rattle.std.proofs.Common.{◌-◌, ◌≡◌, ◌≤◌}
+use Rattle.classes.specs.Tables.{entry}
 use Rattle.points.proofs.class_points.class_points.Given as goal
 use Rattle.model.specs.Steps.Spread.{long_before}
 use Rattle.model.specs.Steps.Spread.{short_before}

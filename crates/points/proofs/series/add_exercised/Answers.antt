@@ -1,14 +1,6 @@
-use Rattle.std.proofs.Common.{rules, ◌≡◌, cond, ℕ, ◌*◌, ◌≤◌, ◌<◌, pos, nat_abs, ◌+ℤ◌, ◌*ℤ◌, get_or, ◌+◌, ◌-◌, length, ◌/◌, ◌%◌, Bool, true, false, nat_eq, nat_lt, List, [], ◌∷◌, ◌++◌, slice_set, bit_and, bit_or, Fits, w8, w32, w64, Bor, MutBor, ℤ, ◌-ℤ◌, ◌≤ℤ◌, ◌<ℤ◌, FitsSigned, to_z, of_z, ◌∙◌, to_z-of_z, ap, not}
-use Rattle.numbers.specs.Table.{tabulate}
-use Rattle.model.specs.DayFile.{class_count, series_count, series_type, is_future, multiplier, closing, underlying, projected}
+use Rattle.std.proofs.Common.{rules, ◌≡◌, pos, ◌*ℤ◌, ◌∙◌, to_z-of_z, ap, not}
+use Rattle.model.specs.DayFile.{series_type, multiplier}
 use Rattle.model.specs.Steps.Classes.{signed_by_type}
-use Rattle.model.specs.Steps.Spread.{spread_quantity, short_before, long_before}
-use Rattle.model.specs.Steps.Prices.{open_price}
-use Rattle.model.specs.Steps.Points.{point_of}
-use Rattle.model.specs.Limits.{contracts_limit, running_limit, worth_limit, point_count}
-use Rattle.classes.specs.Tables.{entry, Day, Given}
-use Rattle.spread.specs.Sides.{non_spread_of}
-use Rattle.points.specs.Series.{open_added, exercised_added}
 use Rattle.points.proofs.series.add_exercised.Goals as goal
 use Rattle.accumulator.specs.Added.{is_none}
 use Rattle.model.proofs.Limits.{underlying_limit}
@@ -25,5 +17,4 @@ pub add-requires : goal.add-requires
 add-requires c =
     let contracts_is : c.exercised_position.result.contracts ≡ (signed_by_type (series_type c.args.day.now c.args.s) (c.args.net *ℤ pos (multiplier c.args.day.now c.args.s))) = c.exercised_position.ensures.0 ∙ ap (λ z. signed_by_type (series_type c.args.day.now c.args.s) (z *ℤ pos (multiplier c.args.day.now c.args.s))) (to_z-of_z c.ranges.net) in
     let e = c.exercised_position.ensures in
-    let p = c.requires.c_bound in record { contracts_bound = ( rw (contracts_is) (by_type_small c.args.day.now c.args.s c.args.net (series_type c.args.day.now c.args.s) p.2), rw e.1 (underlying_limit c.args.day.now c.requires.day.rows c.args.c p.0), rw e.2 (projected_prices_limit c.args.day.now c.requires.day.rows c.args.c p.0), ); by_index = c.requires.by_index }
-
+    let p = c.requires.c_bound in record { contracts_bound = (rw (contracts_is) (by_type_small c.args.day.now c.args.s c.args.net (series_type c.args.day.now c.args.s) p.2), rw e.1 (underlying_limit c.args.day.now c.requires.day.rows c.args.c p.0), rw e.2 (projected_prices_limit c.args.day.now c.requires.day.rows c.args.c p.0)); by_index = c.requires.by_index }

@@ -1,14 +1,8 @@
-use Rattle.std.proofs.Common.{rules, ◌≡◌, cond, ℕ, ◌*◌, ◌≤◌, ◌<◌, pos, nat_abs, ◌+ℤ◌, ◌*ℤ◌, get_or, ◌+◌, ◌-◌, length, ◌/◌, ◌%◌, Bool, true, false, nat_eq, nat_lt, List, [], ◌∷◌, ◌++◌, slice_set, bit_and, bit_or, Fits, w8, w32, w64, Bor, MutBor, ℤ, ◌-ℤ◌, ◌≤ℤ◌, ◌<ℤ◌, FitsSigned, to_z, of_z, ◌∙◌, to_z-of_z, ap, not}
+use Rattle.std.proofs.Common.{rules, ◌≡◌, pos, ◌*ℤ◌, ◌∙◌, to_z-of_z, ap, not}
 use Rattle.numbers.specs.Table.{tabulate}
-use Rattle.model.specs.DayFile.{class_count, series_count, series_type, is_future, multiplier, closing, underlying, projected}
-use Rattle.model.specs.Steps.Classes.{signed_by_type}
-use Rattle.model.specs.Steps.Spread.{spread_quantity, short_before, long_before}
+use Rattle.model.specs.DayFile.{multiplier}
 use Rattle.model.specs.Steps.Prices.{open_price}
-use Rattle.model.specs.Steps.Points.{point_of}
-use Rattle.model.specs.Limits.{contracts_limit, running_limit, worth_limit, point_count}
-use Rattle.classes.specs.Tables.{entry, Day, Given}
-use Rattle.spread.specs.Sides.{non_spread_of}
-use Rattle.points.specs.Series.{open_added, exercised_added}
+use Rattle.model.specs.Limits.{point_count}
 use Rattle.points.proofs.series.add_open.Goals as goal
 use Rattle.accumulator.specs.Added.{is_none}
 use Rattle.model.proofs.Limits.{closing_limit}
@@ -26,5 +20,4 @@ add-requires c =
     let contracts_is : c.open_position.result.contracts ≡ (c.args.net *ℤ pos (multiplier c.args.day.now c.args.s)) = c.open_position.ensures.0 ∙ ap (λ z. z *ℤ pos (multiplier c.args.day.now c.args.s)) (to_z-of_z c.ranges.net) in
     let prices_is : c.open_position.result.prices ≡ (tabulate point_count (open_price c.args.day.now c.args.s c.args.net)) = c.open_position.ensures.2 ∙ ap (λ z. tabulate point_count (open_price c.args.day.now c.args.s z)) (to_z-of_z c.ranges.net) in
     let e = c.open_position.ensures in
-    let p = c.requires.s_bound in record { contracts_bound = ( rw (contracts_is) (contracts_small c.args.day.now c.args.s c.args.net p.1), rw e.1 (closing_limit c.args.day.now c.requires.day.rows c.args.s p.0), rw (prices_is) (open_prices_limit c.args.day.now c.requires.day.rows c.args.s p.0 c.args.net), ); by_index = c.requires.by_index }
-
+    let p = c.requires.s_bound in record { contracts_bound = (rw (contracts_is) (contracts_small c.args.day.now c.args.s c.args.net p.1), rw e.1 (closing_limit c.args.day.now c.requires.day.rows c.args.s p.0), rw (prices_is) (open_prices_limit c.args.day.now c.requires.day.rows c.args.s p.0 c.args.net)); by_index = c.requires.by_index }

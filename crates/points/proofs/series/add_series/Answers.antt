@@ -1,12 +1,8 @@
-use Rattle.std.proofs.Common.{rules, ◌≡◌, cond, ℕ, ◌*◌, ◌≤◌, ◌<◌, pos, nat_abs, ◌+ℤ◌, ◌*ℤ◌, get_or, ◌+◌, ◌-◌, length, ◌/◌, ◌%◌, Bool, true, false, nat_eq, nat_lt, List, [], ◌∷◌, ◌++◌, slice_set, bit_and, bit_or, Fits, w8, w32, w64, Bor, MutBor, ℤ, ◌-ℤ◌, ◌≤ℤ◌, ◌<ℤ◌, FitsSigned, to_z, of_z, to_z-of_z, ◌∙◌, ap, arith}
-use Rattle.numbers.specs.Table.{tabulate}
-use Rattle.model.specs.DayFile.{class_count, series_count, series_type, is_future, multiplier, closing, underlying, projected}
-use Rattle.model.specs.Steps.Classes.{signed_by_type}
-use Rattle.model.specs.Steps.Spread.{spread_quantity, short_before, long_before}
-use Rattle.model.specs.Steps.Prices.{open_price}
-use Rattle.model.specs.Steps.Points.{point_of}
-use Rattle.model.specs.Limits.{contracts_limit, running_limit, worth_limit, point_count}
-use Rattle.classes.specs.Tables.{entry, Day, Given}
+use Rattle.std.proofs.Common.{◌≡◌, cond, ◌*◌, ◌≤◌, nat_abs, w64, to_z, of_z, to_z-of_z, ◌∙◌, ap, arith}
+use Rattle.model.specs.DayFile.{series_count, series_type, is_future, multiplier}
+use Rattle.model.specs.Steps.Spread.{spread_quantity}
+use Rattle.model.specs.Limits.{contracts_limit}
+use Rattle.classes.specs.Tables.{entry}
 use Rattle.spread.specs.Sides.{non_spread_of}
 use Rattle.points.specs.Series.{open_added, exercised_added}
 use Rattle.points.proofs.series.add_series.Goals as goal
@@ -35,7 +31,7 @@ counted_net-requires c =
     let net_is : to_z w64 (of_z w64 c.position_amount-net.result) ≡ open_net (n) (k) (s) = told c.position_amount-net.type_inv c.position_amount-net.ensures in
     let w = c.requires.given in
     let p = c.requires.book_bound in
-    let h : s ≤ series_count (d) = omega (arith, p.2) in record { day = w.day; s_bound = ( p.2, rw (quantity_is) (quantity_size (d) c.args.nets.now w (k) c.args.c p.0 p.1), rw c.requires.short_value.0 (short-size (d) c.args.nets.now w (k) c.args.c p.0 p.1 (s) h), rw c.requires.short_value.1 (long-size (d) c.args.nets.now w (k) c.args.c p.0 p.1 (s) h), rw (net_is) (open_size), ) }
+    let h : s ≤ series_count (d) = omega (arith, p.2) in record { day = w.day; s_bound = (p.2, rw (quantity_is) (quantity_size (d) c.args.nets.now w (k) c.args.c p.0 p.1), rw c.requires.short_value.0 (short-size (d) c.args.nets.now w (k) c.args.c p.0 p.1 (s) h), rw c.requires.short_value.1 (long-size (d) c.args.nets.now w (k) c.args.c p.0 p.1 (s) h), rw (net_is) (open_size)) }
 
 pub add_open-next-requires : goal.add_open-next-requires
 add_open-next-requires c =
@@ -81,4 +77,3 @@ returns c =
     c.add_exercised.ensures
     ∙ (λ i. exercised_added (d) c.args.c (s) (opened_is i) (exercised_is i))
     ∙ both_added (d) (n) (k) c.args.c (s) (at)
-

@@ -1,9 +1,4 @@
-use Rattle.std.proofs.Common.{rules, ◌≡◌, ◌≤◌, ◌<◌, nat_abs, ℕ, ◌+◌, ◌-◌, ◌*◌, length, ◌/◌, ◌%◌, Bool, true, false, nat_eq, nat_lt, List, [], ◌∷◌, ◌++◌, slice_index_or, slice_set, bit_and, bit_or, Fits, w8, w32, w64, Bor, MutBor, ℤ, pos, ◌+ℤ◌, ◌-ℤ◌, ◌*ℤ◌, ◌≤ℤ◌, ◌<ℤ◌, FitsSigned, to_z, of_z, ap, ◌∙◌, to_z-of_z, arith}
-use Rattle.model.specs.Steps.Spread.{spread_quantity}
-use Rattle.model.specs.Steps.Spread.{spread as spread_of}
-use Rattle.model.specs.Limits.{contracts_limit, price_limit}
-use Rattle.classes.specs.Tables.{entry, Given}
-use Rattle.classes.specs.Range.{Range}
+use Rattle.std.proofs.Common.{◌≡◌, w64, pos, ◌+ℤ◌, ◌-ℤ◌, ◌*ℤ◌, to_z, of_z, ap, ◌∙◌, to_z-of_z, arith}
 use Rattle.spread.specs.Sides.{spread_amount}
 use Rattle.spread.proofs.amount.spread_amount.Goals as goal
 use Rattle.numbers.specs.Abs.{fits_by}
@@ -37,4 +32,3 @@ add-requires c =
     let far_margin_is : to_z w64 (of_z w64 c.sub-far.result) *ℤ to_z w64 (of_z w64 c.signed-2.result) ≡ far *ℤ pos c.args.far_rate = λ i. told c.sub-far.type_inv (c.sub-far.ensures ∙ far_is) i *ℤ told c.signed-2.type_inv c.signed-2.ensures i in
     let sum_is : to_z w64 (of_z w64 c.mul-2.result) +ℤ to_z w64 (of_z w64 c.mul-3.result) ≡ (spread_amount (e) (q) c.args.near_rate c.args.far_rate) = λ i. told c.mul-2.type_inv (c.mul-2.ensures ∙ near_margin_is) i +ℤ told c.mul-3.type_inv (c.mul-3.ensures ∙ far_margin_is) i in
     fits_by (sum_is) (spread_fits c.args.spot c.args.quantity c.args.near_rate c.args.far_rate c.requires.0 c.requires.1 c.requires.2 c.requires.3)
-

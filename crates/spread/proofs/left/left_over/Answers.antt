@@ -1,7 +1,5 @@
-use Rattle.std.proofs.Common.{rules, ◌≡◌, ◌≤◌, nat_abs, ℕ, ◌+◌, ◌-◌, ◌*◌, ◌<◌, length, ◌/◌, ◌%◌, Bool, true, false, nat_eq, nat_lt, List, [], ◌∷◌, ◌++◌, slice_index_or, slice_set, bit_and, bit_or, Fits, w8, w32, w64, Bor, MutBor, ℤ, pos, ◌+ℤ◌, ◌-ℤ◌, ◌*ℤ◌, ◌≤ℤ◌, ◌<ℤ◌, FitsSigned, to_z, of_z, to_z-of_z, ◌∙◌, ap}
+use Rattle.std.proofs.Common.{◌≡◌, w64, pos, ◌-ℤ◌, to_z, of_z, to_z-of_z, ◌∙◌, ap}
 use Rattle.model.specs.Steps.Spread.{left_over}
-use Rattle.model.specs.Limits.{contracts_limit}
-use Rattle.spread.specs.Sides.{non_spread_of}
 use Rattle.spread.proofs.left.left_over.Goals as goal
 use Rattle.numbers.specs.Abs.{told}
 use Rattle.numbers.specs.Extremes.{max_z}
@@ -15,4 +13,3 @@ returns c =
     let z = c.args.size in
     let left_is : to_z w64 (of_z w64 (z)) -ℤ to_z w64 (of_z w64 c.smaller.result) ≡ left_over q c.args.before z = let size_is = to_z-of_z c.ranges.size in let rest = told c.larger-rest.type_inv (c.larger-rest.ensures ∙ ap (λ x. max_z x (pos 0)) (told c.sub.type_inv (c.sub.ensures ∙ rest_is))) in λ i. size_is i -ℤ told c.smaller.type_inv (c.smaller.ensures ∙ (λ j. min_z (size_is j) (rest j))) i in
     told c.sub-2.type_inv (c.sub-2.ensures ∙ left_is)
-

@@ -1,10 +1,5 @@
-use Rattle.std.proofs.Common.{◌-◌, ◌≡◌, ◌≤◌, ◌<◌, ◌^◌, pos, nat_abs, ◌+ℤ◌, ℕ, ◌+◌, ◌*◌, length}
-use Rattle.model.specs.DayFile.{series_count}
-use Rattle.model.specs.Steps.Spread.{short_side, long_side, total_short, total_long}
-use Rattle.model.specs.Limits.{contracts_limit}
-use Rattle.classes.specs.Tables.{entry, Given}
-use Rattle.classes.specs.Range.{Range}
-use Rattle.spread.specs.Sides.{future_short, future_long}
+use Rattle.std.proofs.Common.{◌-◌, ◌≡◌, ◌≤◌}
+use Rattle.classes.specs.Tables.{entry}
 use Rattle.spread.proofs.sides.total_sides.Given as goal
 use Rattle.model.specs.Steps.Spread.{long_before}
 use Rattle.model.specs.Steps.Spread.{short_before}

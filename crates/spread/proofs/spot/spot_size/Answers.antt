@@ -1,12 +1,7 @@
-use Rattle.std.proofs.Common.{rules, ◌≡◌, ◌<◌, ℕ, ◌+◌, ◌-◌, ◌*◌, ◌≤◌, length, ◌/◌, ◌%◌, Bool, true, false, nat_eq, nat_lt, List, [], ◌∷◌, ◌++◌, slice_index_or, slice_set, bit_and, bit_or, Fits, w8, w32, w64, Bor, MutBor, ℤ, pos, ◌+ℤ◌, ◌-ℤ◌, ◌*ℤ◌, ◌≤ℤ◌, ◌<ℤ◌, FitsSigned, to_z, of_z, ◌∙◌, arith, ap}
-use Rattle.model.specs.DayFile.{series_count}
-use Rattle.model.specs.Steps.Spread.{spot_size}
-use Rattle.classes.specs.Tables.{entry, Day, Given}
-use Rattle.classes.specs.Range.{Range}
-use Rattle.spread.specs.Sides.{held_here}
+use Rattle.std.proofs.Common.{rules, ◌∙◌, arith, ap}
+use Rattle.classes.specs.Tables.{entry}
 use Rattle.spread.proofs.spot.spot_size.Goals as goal
 use Rattle.classes.specs.Sizes.{net-size}
-use Rattle.model.specs.Steps.Spread.{held_future}
 use Rattle.numbers.specs.Abs.{told}
 use Rattle.numbers.specs.Extremes.{abs_z}
 use Rattle.spread.specs.Laws.{spot_hit}
@@ -30,15 +25,13 @@ returns-then-held_future c =
     c.loop-s.invariant.2 c.held_future.ensures c.if-held_future.true
 
 pub loop-s-preserved : goal.loop-s-preserved
-loop-s-preserved c =
-    (
-      search rules,
-      search rules,
-      spot_more c.args.day.now (entry c.args.nets.now) c.args.book c.args.c c.args.a c.args.b c.requires.range c.loop-s.s _ c.loop-s.invariant.0 (omega arith)
-          c.loop-s.invariant.2 c.held_future.ensures c.if-held_future.false,
-    )
+loop-s-preserved c = (
+  search rules,
+  search rules,
+  spot_more c.args.day.now (entry c.args.nets.now) c.args.book c.args.c c.args.a c.args.b c.requires.range c.loop-s.s _ c.loop-s.invariant.0 (omega arith)
+      c.loop-s.invariant.2 c.held_future.ensures c.if-held_future.false,
+)
 
 pub returns : goal.returns
 returns c =
     spot_none c.args.day.now (entry c.args.nets.now) c.args.book c.args.c c.args.a c.args.b c.requires.range c.loop-s.s (omega arith) c.loop-s.invariant.2
-

@@ -1,9 +1,5 @@
-use Rattle.std.proofs.Common.{◌-◌, ◌≡◌, ◌<◌, ℕ, ◌+◌, ◌*◌, ◌≤◌, length, ℤ, pos, ◌+ℤ◌, ◌-ℤ◌, ◌*ℤ◌, ◌≤ℤ◌, ◌<ℤ◌, FitsSigned, to_z, of_z}
-use Rattle.model.specs.DayFile.{series_count}
-use Rattle.model.specs.Steps.Spread.{spot_size}
-use Rattle.classes.specs.Tables.{entry, Day, Given}
-use Rattle.classes.specs.Range.{Range}
-use Rattle.spread.specs.Sides.{held_here}
+use Rattle.std.proofs.Common.{◌-◌, ◌≡◌, ◌≤◌}
+use Rattle.classes.specs.Tables.{entry}
 use Rattle.spread.proofs.spot.spot_size.Given as goal
 use Rattle.model.specs.Steps.Spread.{held_future}
 use Rattle.numbers.specs.Scan.{first_bad}

@@ -1,4 +1,5 @@
-use Rattle.std.proofs.Common.{rules, ◌≡◌, ◌+◌, ◌<◌, ℕ, ◌-◌, ◌*◌, ◌≤◌, length, ◌/◌, ◌%◌, Bool, true, false, nat_eq, nat_lt, List, [], ◌∷◌, ◌++◌, slice_index_or, slice_set, bit_and, bit_or, Fits, w8, w32, w64, Bor, MutBor, ℤ, pos, ◌+ℤ◌, ◌-ℤ◌, ◌*ℤ◌, ◌≤ℤ◌, ◌<ℤ◌, FitsSigned, to_z, of_z}
+use Rattle.std.proofs.Common.{refl}
+use Rattle.std.proofs.Common.{rules, ◌≡◌, ◌+◌, ◌<◌, ℕ, ◌-◌, ◌*◌, ◌≤◌, length, ◌/◌, ◌%◌, Bool, true, false, nat_eq, nat_lt, List, [], ◌∷◌, ◌++◌, slice_index_or, slice_set, bit_and, bit_or, Fits, w8, w32, w64, Bor, MutBor, ℤ, pos, ◌+ℤ◌, ◌-ℤ◌, ◌*ℤ◌, ◌≤ℤ◌, ◌<ℤ◌, FitsSigned, to_z, of_z, nat_abs, ◌∙◌, arith, SFits}
 use Rattle.model.specs.DayFile.{class_count}
 use Rattle.model.proofs.Records.{Budget}
 use Rattle.classes.specs.Tables.{entry, Given}
@@ -7,11 +8,18 @@ use Rattle.classes.specs.Starts.{start_table}
 use Rattle.margin.specs.Groups.{Small, no_amounts, added, class_amounts, amounts_below}
 use Rattle.model.specs.Limits.{group_count}
 use Rattle.margin.proofs.group.Amounts.add.Goals as goal
+use Rattle.model.specs.Limits.{mtm_limit}
 use Rattle.numbers.specs.Abs.{back}
+use Rattle.numbers.specs.Abs.{fits_by}
+use Rattle.numbers.specs.Abs.{nat_abs-+}
 use Rattle.numbers.specs.Abs.{told}
 
-sum_is : to_z w64 (of_z w64 a) +ℤ to_z w64 (of_z w64 b) ≡ a +ℤ b
+module _ (a b : ℤ) (h : nat_abs a ≤ mtm_limit) (k : nat_abs b ≤ mtm_limit) where
+  sum_is : to_z w64 (of_z w64 a) +ℤ to_z w64 (of_z w64 b) ≡ a +ℤ b
   sum_is = λ i. back {r = a} refl (omega arith) i +ℤ back {r = b} refl (omega arith) i
+
+  sum_fits : SFits w64 (to_z w64 (of_z w64 a) +ℤ to_z w64 (of_z w64 b))
+  sum_fits = fits_by sum_is (omega (arith, nat_abs-+ a b))
 
 pub returns : goal.returns
 returns c =

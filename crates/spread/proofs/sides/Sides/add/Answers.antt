@@ -1,11 +1,7 @@
-use Rattle.std.proofs.lemmas.Bool.{not-false}
-use Rattle.std.proofs.Common.{rules, ◌≡◌, ◌≤◌, ◌<◌, ◌^◌, pos, nat_abs, ◌+ℤ◌, ℕ, ◌+◌, ◌-◌, ◌*◌, length, ◌/◌, ◌%◌, Bool, true, false, nat_eq, nat_lt, List, [], ◌∷◌, ◌++◌, slice_index_or, slice_set, bit_and, bit_or, Fits, w8, w32, w64, Bor, MutBor, ℤ, ◌-ℤ◌, ◌*ℤ◌, ◌≤ℤ◌, ◌<ℤ◌, FitsSigned, to_z, of_z, arith, ◌∙◌, neg_ℤ, ap, sym}
-use Rattle.model.specs.DayFile.{series_count}
-use Rattle.model.specs.Steps.Spread.{short_side, long_side, total_short, total_long}
+use Rattle.std.proofs.Common.{◌≡◌, ◌≤◌, ◌<◌, ◌^◌, pos, nat_abs, ◌+ℤ◌, true, w64, ℤ, to_z, of_z, arith, ◌∙◌, neg_ℤ, ap, sym}
+use Rattle.model.specs.Steps.Spread.{short_side, long_side}
 use Rattle.model.specs.Limits.{contracts_limit}
-use Rattle.classes.specs.Tables.{entry, Given}
-use Rattle.classes.specs.Range.{Range}
-use Rattle.spread.specs.Sides.{future_short, future_long}
+use Rattle.classes.specs.Tables.{entry}
 use Rattle.spread.proofs.sides.Sides.add.Goals as goal
 use Rattle.std.proofs.Common.{refl}
 use Rattle.classes.specs.Sizes.{net-size}
@@ -18,7 +14,7 @@ use Rattle.numbers.specs.Abs.{nat_abs-+}
 use Rattle.numbers.specs.Abs.{nat_abs-neg}
 use Rattle.numbers.specs.Abs.{told}
 use Rattle.numbers.specs.Extremes.{max-zero_abs}
-use Rattle.numbers.specs.Tests.{cond_on, or_false}
+use Rattle.numbers.specs.Tests.{cond_on}
 
 pub add-requires : goal.add-requires
 add-requires c =
@@ -64,4 +60,3 @@ returns c =
       told c.add.type_inv (c.add.ensures ∙ (λ i. self_short i +ℤ short_is i) ∙ ap (λ (y : ℤ). c.args.self.short +ℤ y) (cond_on _ (short_side (z)) (pos 0) e)),
       told c.add-2.type_inv (c.add-2.ensures ∙ (λ i. self_long i +ℤ long_is i) ∙ ap (λ (y : ℤ). c.args.self.long +ℤ y) (cond_on _ (long_side (z)) (pos 0) e)),
     )
-

@@ -1,0 +1,83 @@
+use Rattle.std.proofs.Math.IntN.{+ℤ_idl}
+use Rattle.std.proofs.Common.{rules, ◌≡◌, [], ◌∷◌, ◌≤◌, ◌<◌, pos, nat_abs, ◌+ℤ◌, get_or, ℕ, ◌+◌, ◌-◌, ◌*◌, length, ◌/◌, ◌%◌, Bool, true, false, nat_eq, nat_lt, List, ◌++◌, slice_set, bit_and, bit_or, Fits, w8, w32, w64, Bor, MutBor, ℤ, ◌-ℤ◌, ◌*ℤ◌, ◌≤ℤ◌, ◌<ℤ◌, FitsSigned, to_z, of_z, subst, sym, le_refl, arith, ◌∙◌, ap, neg_ℤ}
+use Rattle.numbers.specs.Extremes.{max_z, largest}
+use Rattle.model.specs.Steps.Margin.{line_amounts}
+use Rattle.model.proofs.Accepted.{DayRows}
+use Rattle.model.proofs.Records.{Budget}
+use Rattle.model.specs.Limits.{mtm_limit, spread_limit, worth_limit, point_count, group_count}
+use Rattle.classes.specs.Tables.{entry}
+use Rattle.classes.specs.Starts.{start_table}
+use Rattle.margin.proofs.line.group_line.Goals as goal
+use Rattle.std.proofs.Common.{refl}
+use Rattle.classes.specs.Tables.{given}
+use Rattle.margin.specs.Groups.{Small}
+use Rattle.margin.specs.Groups.{below_small}
+use Rattle.margin.specs.Lines.{line_is}
+use Rattle.margin.specs.Lines.{requirement-size}
+use Rattle.margin.specs.Lines.{requirement_of}
+use Rattle.margin.specs.Lines.{sum-size}
+use Rattle.margin.specs.Lines.{sum_of}
+use Rattle.margin.specs.declared.group.Amounts.{Amounts}
+use Rattle.model.specs.DayFile.{class_count}
+use Rattle.model.specs.Limits.{margin_limit}
+use Rattle.model.specs.Steps.Margin.{margin_of}
+use Rattle.numbers.specs.Abs.{back}
+use Rattle.numbers.specs.Abs.{fits_by}
+use Rattle.numbers.specs.Abs.{nat_abs-neg}
+use Rattle.numbers.specs.Abs.{told}
+
+pub group_amounts-sums-requires : goal.group_amounts-sums-requires
+group_amounts-sums-requires c =
+    record { given = given c.args.day.now c.args.nets.now (entry c.args.dvps.now) c.requires.day_rows c.requires.budget; budget = c.requires.budget; book_bound = c.requires.book_bound; starts_value = c.requires.starts_value }
+
+pub group_sum-total-requires : goal.group_sum-total-requires
+group_sum-total-requires c =
+    let a : Amounts = c.group_amounts-sums.result in
+    let small : Small a = subst Small (sym c.group_amounts-sums.ensures) (below_small c.args.day.now (entry c.args.nets.now) (entry c.args.dvps.now) c.args.book c.args.g c.requires.day_rows c.requires.budget c.requires.book_bound.0 (class_count c.args.day.now) c.requires.book_bound.1 (le_refl (class_count c.args.day.now))) in
+    let spread_is : to_z w64 (of_z w64 a.spread) ≡ a.spread = back refl (omega (arith, small.spread_small)) in
+    let mtm_is : to_z w64 (of_z w64 a.mtm) ≡ a.mtm = back refl (omega (arith, small.mtm_small)) in
+    let premium_is : to_z w64 (of_z w64 a.premium) ≡ a.premium = back refl (omega (arith, small.premium_small)) in
+    let r = requirement_of a.points.at a.minimum in
+    let r_size : nat_abs r ≤ worth_limit = requirement-size a small in
+    let requirement_is : to_z w64 (of_z w64 c.additional_requirement-requirement.result) ≡ r = told c.additional_requirement-requirement.type_inv (c.additional_requirement-requirement.ensures ∙ ap (λ q. requirement_of (a).points.at q) (back {r = (a).minimum} refl (omega (arith, (small).minimum_small)))) in
+    (
+      rw (spread_is) (small).spread_small,
+      rw (mtm_is) (small).mtm_small,
+      rw (premium_is) (small).premium_small,
+      rw (requirement_is) (r_size),
+    )
+
+pub sub-requires : goal.sub-requires
+sub-requires c =
+    let a : Amounts = c.group_amounts-sums.result in
+    let r = requirement_of a.points.at a.minimum in
+    let z = sum_of a.spread a.mtm a.premium r in
+    let small : Small a = subst Small (sym c.group_amounts-sums.ensures) (below_small c.args.day.now (entry c.args.nets.now) (entry c.args.dvps.now) c.args.book c.args.g c.requires.day_rows c.requires.budget c.requires.book_bound.0 (class_count c.args.day.now) c.requires.book_bound.1 (le_refl (class_count c.args.day.now))) in
+    let r_size : nat_abs r ≤ worth_limit = requirement-size a small in
+    let total_size : nat_abs z ≤ margin_limit = sum-size a.spread a.mtm a.premium r small.spread_small small.mtm_small small.premium_small r_size in
+    let spread_is : to_z w64 (of_z w64 a.spread) ≡ a.spread = back refl (omega (arith, small.spread_small)) in
+    let mtm_is : to_z w64 (of_z w64 a.mtm) ≡ a.mtm = back refl (omega (arith, small.mtm_small)) in
+    let premium_is : to_z w64 (of_z w64 a.premium) ≡ a.premium = back refl (omega (arith, small.premium_small)) in
+    let requirement_is : to_z w64 (of_z w64 c.additional_requirement-requirement.result) ≡ r = told c.additional_requirement-requirement.type_inv (c.additional_requirement-requirement.ensures ∙ ap (λ q. requirement_of (a).points.at q) (back {r = (a).minimum} refl (omega (arith, (small).minimum_small)))) in
+    let total_is : to_z w64 (of_z w64 c.group_sum-total.result) ≡ z = told c.group_sum-total.type_inv (c.group_sum-total.ensures ∙ (λ i. sum_of (spread_is i) (mtm_is i) (premium_is i) (requirement_is i))) in
+    let minus_is : pos 0 -ℤ to_z w64 (of_z w64 c.group_sum-total.result) ≡ neg_ℤ (z) = ap (λ y. pos 0 -ℤ y) (total_is) ∙ +ℤ_idl (neg_ℤ (z)) in
+    fits_by (minus_is) (omega (arith, nat_abs-neg (z), total_size))
+
+pub returns : goal.returns
+returns c =
+    let a : Amounts = c.group_amounts-sums.result in
+    let small : Small a = subst Small (sym c.group_amounts-sums.ensures) (below_small c.args.day.now (entry c.args.nets.now) (entry c.args.dvps.now) c.args.book c.args.g c.requires.day_rows c.requires.budget c.requires.book_bound.0 (class_count c.args.day.now) c.requires.book_bound.1 (le_refl (class_count c.args.day.now))) in
+    let spread_is : to_z w64 (of_z w64 a.spread) ≡ a.spread = back refl (omega (arith, small.spread_small)) in
+    let mtm_is : to_z w64 (of_z w64 a.mtm) ≡ a.mtm = back refl (omega (arith, small.mtm_small)) in
+    let premium_is : to_z w64 (of_z w64 a.premium) ≡ a.premium = back refl (omega (arith, small.premium_small)) in
+    let r = requirement_of a.points.at a.minimum in
+    let requirement_is : to_z w64 (of_z w64 c.additional_requirement-requirement.result) ≡ r = told c.additional_requirement-requirement.type_inv (c.additional_requirement-requirement.ensures ∙ ap (λ q. requirement_of (a).points.at q) (back {r = (a).minimum} refl (omega (arith, (small).minimum_small)))) in
+    let z = sum_of a.spread a.mtm a.premium r in
+    let total_is : to_z w64 (of_z w64 c.group_sum-total.result) ≡ z = told c.group_sum-total.type_inv (c.group_sum-total.ensures ∙ (λ i. sum_of (spread_is i) (mtm_is i) (premium_is i) (requirement_is i))) in
+    let minus_is : pos 0 -ℤ to_z w64 (of_z w64 c.group_sum-total.result) ≡ neg_ℤ (z) = ap (λ y. pos 0 -ℤ y) (total_is) ∙ +ℤ_idl (neg_ℤ (z)) in
+    let y = (c).args in
+    (λ i. spread_is i ∷ mtm_is i ∷ premium_is i ∷ requirement_is i
+    ∷ told c.larger.type_inv (c.larger.ensures ∙ ap margin_of (total_is)) i
+    ∷ told c.larger-2.type_inv (c.larger-2.ensures ∙ ap margin_of (told c.sub.type_inv (c.sub.ensures ∙ minus_is))) i ∷ [])
+    ∙ line_is y.day.now (entry y.nets.now) (entry y.dvps.now) y.book y.g (a) c.group_amounts-sums.ensures
+
