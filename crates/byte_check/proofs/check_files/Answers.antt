@@ -1,7 +1,5 @@
 use Rattle.byte_check.proofs.check_files.Goals as goal
-use Rattle.byte_check.specs.Rows.{batch_refused}
-use Rattle.byte_check.specs.Rows.{day_refused}
-use Rattle.byte_check.specs.Rows.{none_refused}
+use Rattle.byte_check.specs.Rows.{batch_refused, day_refused, none_refused}
 
 pub returns-then-day_opened-bad_bytes : goal.returns-then-day_opened-bad_bytes
 returns-then-day_opened-bad_bytes c =

@@ -1,15 +1,8 @@
 use Rattle.std.proofs.Common.{rules, ◌≡◌, ◌<◌, ◌≤◌, sym, arith, ◌∙◌, ap}
-use Rattle.numbers.specs.Scan.{first_bad, hit}
+use Rattle.numbers.specs.Scan.{first_bad, hit, first-hit, first_more}
 use Rattle.model.specs.DayFile.{series_count}
 use Rattle.deposit_check.proofs.any_differs.Goals as goal
-use Rattle.deposit_check.specs.Unlike.{class_differing}
-use Rattle.deposit_check.specs.Unlike.{differ_at}
-use Rattle.deposit_check.specs.Unlike.{differ_end}
-use Rattle.deposit_check.specs.Unlike.{differ_start}
-use Rattle.deposit_check.specs.Unlike.{first_inside}
-use Rattle.deposit_check.specs.Unlike.{unlike-first}
-use Rattle.numbers.specs.Scan.{first-hit}
-use Rattle.numbers.specs.Scan.{first_more}
+use Rattle.deposit_check.specs.Unlike.{class_differing, differ_at, differ_end, differ_start, first_inside, unlike-first}
 
 pub loop-s-init : goal.loop-s-init
 loop-s-init c =

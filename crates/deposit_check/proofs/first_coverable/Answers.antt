@@ -1,13 +1,9 @@
 use Rattle.std.proofs.Common.{rules, ◌≡◌, sym, arith, ◌∙◌, ap}
-use Rattle.numbers.specs.Scan.{first_bad}
+use Rattle.numbers.specs.Scan.{first_bad, first-hit, first_more}
 use Rattle.model.specs.DayFile.{series_count}
 use Rattle.model.specs.Steps.Cover.{coverable_of}
 use Rattle.deposit_check.proofs.first_coverable.Goals as goal
-use Rattle.deposit_check.specs.Unlike.{cover_at}
-use Rattle.deposit_check.specs.Unlike.{cover_end}
-use Rattle.deposit_check.specs.Unlike.{cover_start}
-use Rattle.numbers.specs.Scan.{first-hit}
-use Rattle.numbers.specs.Scan.{first_more}
+use Rattle.deposit_check.specs.Unlike.{cover_at, cover_end, cover_start}
 
 pub loop-s-init : goal.loop-s-init
 loop-s-init c =
