@@ -1,13 +1,9 @@
-use Rattle.std.proofs.Common.{not, ℕ}
+use Rattle.std.proofs.Common.{not, ℕ, ◌∙◌, ap, ◌||◌, ltb}
 use Rattle.numbers.specs.Scan.{hit}
 use Rattle.model.specs.DayFile.{class_with}
 use Rattle.model.specs.DepositChecks.{row50}
 use Rattle.deposit_check.proofs.bad_deposit.Goals as goal
 use Rattle.model.specs.Limits.{shares_limit}
-use Rattle.std.proofs.Common.{ap}
-use Rattle.std.proofs.Common.{ltb}
-use Rattle.std.proofs.Common.{◌||◌}
-use Rattle.std.proofs.Common.{◌∙◌}
 
 pub returns : goal.returns
 unfolding row50
