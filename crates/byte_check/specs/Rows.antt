@@ -16,12 +16,12 @@ use Rattle.model.proofs.Verdicts.{◌then◌, tried_pass, tried-passed, plain_fa
 module _ (day_opened : Bool) (day : List ℕ) (batch_opened : Bool) (batch : List ℕ) {p : Bool} (e : p ≡ bad_bytes day longest_day) where
   pub day_refused : (not day_opened || p) ≡ true → Failed (Bytes DayFile 0) ≡ files_check day_opened day batch_opened batch
   unfolding files_check row1
-  day_refused t = rw (← e) (plain_failed (Bytes DayFile) _ _ _ (plain_row (Bytes BatchFile) (not batch_opened || row2 batch) ∷ []) refl t refl)
+  day_refused t = rw (← e) (plain_failed (Bytes DayFile) _ _ _ _ refl t refl)
 
   module _ (t : (not day_opened || p) ≡ false) {q : Bool} (f : q ≡ bad_bytes batch longest_batch) where
     pub batch_refused : (not batch_opened || q) ≡ true → Failed (Bytes BatchFile 0) ≡ files_check day_opened day batch_opened batch
     unfolding files_check row1 row2
-    batch_refused u = rw (← e, ← f) (plain_passed (Bytes DayFile) _ _ _ _ refl t (plain_failed (Bytes BatchFile) _ _ _ [] refl u refl))
+    batch_refused u = rw (← e, ← f) (plain_passed (Bytes DayFile) _ _ _ _ refl t (plain_failed (Bytes BatchFile) _ _ _ _ refl u refl))
 
     pub none_refused : (not batch_opened || q) ≡ false → Passed ≡ files_check day_opened day batch_opened batch
     unfolding files_check row1 row2
@@ -35,7 +35,7 @@ both_opened day batch = refl
 -- ---- files that pass
 
 both_rows : (p q : Bool) → tried (plain_row (Bytes DayFile) p ∷ plain_row (Bytes BatchFile) q ∷ []) ≡ Passed → (p ≡ false) × (q ≡ false)
-both_rows p q e = let z = tried-passed _ e in (plain_clear (Bytes DayFile) p z.0, plain_clear (Bytes BatchFile) q z.1.0)
+both_rows p q e = let z = tried-passed _ e in (plain_clear (Bytes DayFile) _ z.0, plain_clear (Bytes BatchFile) _ z.1.0)
 
 short_enough : (l : List ℕ) (longest : ℕ) → bad_bytes l longest ≡ false → length l ≤ 4 * longest
 short_enough l longest e = ltb-false (4 * longest) (length l) (or_right (ltb 0 (length l % 4)) (ltb (4 * longest) (length l)) e)
