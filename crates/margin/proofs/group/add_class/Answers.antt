@@ -1,18 +1,13 @@
-use Rattle.std.proofs.Common.{rules, ◌≡◌, ◌+◌, ◌<◌, ℕ, ◌-◌, ◌*◌, ◌≤◌, length, ◌/◌, ◌%◌, Bool, true, false, nat_eq, nat_lt, List, [], ◌∷◌, ◌++◌, slice_index_or, slice_set, bit_and, bit_or, Fits, w8, w32, w64, Bor, MutBor, subst, get_or, ◌∙◌, sym, arith}
-use Rattle.model.specs.DayFile.{class_count}
-use Rattle.model.proofs.Records.{Budget}
-use Rattle.classes.specs.Tables.{entry, Given}
+use Rattle.std.proofs.Common.{◌+◌, subst, get_or, ◌∙◌, sym, arith}
+use Rattle.classes.specs.Tables.{entry}
 use Rattle.classes.specs.Range.{Range}
-use Rattle.classes.specs.Starts.{start_table}
-use Rattle.margin.specs.Groups.{Small, no_amounts, added, class_amounts, amounts_below}
-use Rattle.model.specs.Limits.{group_count}
+use Rattle.margin.specs.Groups.{Small, added, class_amounts}
 use Rattle.margin.proofs.group.add_class.Goals as goal
 use Rattle.classes.specs.Starts.{table_range}
 use Rattle.margin.specs.Groups.{below_small}
 use Rattle.margin.specs.Groups.{class_added}
 use Rattle.margin.specs.Groups.{class_skipped}
 use Rattle.margin.specs.Groups.{class_small}
-use Rattle.model.specs.DayFile.{group}
 
 pub returns-then-group-g : goal.returns-then-group-g
 returns-then-group-g c =
@@ -53,4 +48,3 @@ returns c =
     let cls = c.args.c in
     c.add.ensures ∙ (λ j. added (c.requires.sum_value j) (c.class_amounts.ensures j))
     ∙ class_added (d) (n) (v) (k) (g) (cls) (sym c.group.ensures ∙ c.if-group-g.false)
-

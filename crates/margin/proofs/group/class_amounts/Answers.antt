@@ -1,11 +1,6 @@
-use Rattle.std.proofs.Common.{rules, ◌≡◌, ◌+◌, ◌<◌, ℕ, ◌-◌, ◌*◌, ◌≤◌, length, ◌/◌, ◌%◌, Bool, true, false, nat_eq, nat_lt, List, [], ◌∷◌, ◌++◌, slice_index_or, slice_set, bit_and, bit_or, Fits, w8, w32, w64, Bor, MutBor, ℤ, pos, ◌+ℤ◌, ◌-ℤ◌, ◌*ℤ◌, ◌≤ℤ◌, ◌<ℤ◌, FitsSigned, to_z, of_z, ◌∙◌, get_or, ap}
-use Rattle.model.specs.DayFile.{class_count}
-use Rattle.model.proofs.Records.{Budget}
-use Rattle.classes.specs.Tables.{entry, Given}
+use Rattle.std.proofs.Common.{pos, ◌∙◌, get_or, ap}
+use Rattle.classes.specs.Tables.{entry}
 use Rattle.classes.specs.Range.{Range}
-use Rattle.classes.specs.Starts.{start_table}
-use Rattle.margin.specs.Groups.{Small, no_amounts, added, class_amounts, amounts_below}
-use Rattle.model.specs.Limits.{group_count}
 use Rattle.margin.proofs.group.class_amounts.Goals as goal
 use Rattle.margin.specs.Groups.{offset_point}
 use Rattle.model.proofs.Bounds.{class_point_lem}
@@ -49,4 +44,3 @@ returns c =
                 (λ j h. ap (after_offset (offset (d) (cls))) (get_or-tabulate point_count (class_point (d) (n) (k) (cls)) j (pos 0) h))) i;
           };
     }
-

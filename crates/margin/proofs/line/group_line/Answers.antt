@@ -1,12 +1,7 @@
 use Rattle.std.proofs.Math.IntN.{+ℤ_idl}
-use Rattle.std.proofs.Common.{rules, ◌≡◌, [], ◌∷◌, ◌≤◌, ◌<◌, pos, nat_abs, ◌+ℤ◌, get_or, ℕ, ◌+◌, ◌-◌, ◌*◌, length, ◌/◌, ◌%◌, Bool, true, false, nat_eq, nat_lt, List, ◌++◌, slice_set, bit_and, bit_or, Fits, w8, w32, w64, Bor, MutBor, ℤ, ◌-ℤ◌, ◌*ℤ◌, ◌≤ℤ◌, ◌<ℤ◌, FitsSigned, to_z, of_z, subst, sym, le_refl, arith, ◌∙◌, ap, neg_ℤ}
-use Rattle.numbers.specs.Extremes.{max_z, largest}
-use Rattle.model.specs.Steps.Margin.{line_amounts}
-use Rattle.model.proofs.Accepted.{DayRows}
-use Rattle.model.proofs.Records.{Budget}
-use Rattle.model.specs.Limits.{mtm_limit, spread_limit, worth_limit, point_count, group_count}
+use Rattle.std.proofs.Common.{◌≡◌, [], ◌∷◌, ◌≤◌, pos, nat_abs, w64, ◌-ℤ◌, to_z, of_z, subst, sym, le_refl, arith, ◌∙◌, ap, neg_ℤ}
+use Rattle.model.specs.Limits.{worth_limit}
 use Rattle.classes.specs.Tables.{entry}
-use Rattle.classes.specs.Starts.{start_table}
 use Rattle.margin.proofs.line.group_line.Goals as goal
 use Rattle.std.proofs.Common.{refl}
 use Rattle.classes.specs.Tables.{given}
@@ -39,8 +34,7 @@ group_sum-total-requires c =
     let premium_is : to_z w64 (of_z w64 a.premium) ≡ a.premium = back refl (omega (arith, small.premium_small)) in
     let r = requirement_of a.points.at a.minimum in
     let r_size : nat_abs r ≤ worth_limit = requirement-size a small in
-    let requirement_is : to_z w64 (of_z w64 c.additional_requirement-requirement.result) ≡ r = told c.additional_requirement-requirement.type_inv (c.additional_requirement-requirement.ensures ∙ ap (λ q. requirement_of (a).points.at q) (back {r = (a).minimum} refl (omega (arith, (small).minimum_small)))) in
-    (
+    let requirement_is : to_z w64 (of_z w64 c.additional_requirement-requirement.result) ≡ r = told c.additional_requirement-requirement.type_inv (c.additional_requirement-requirement.ensures ∙ ap (λ q. requirement_of (a).points.at q) (back {r = (a).minimum} refl (omega (arith, (small).minimum_small)))) in (
       rw (spread_is) (small).spread_small,
       rw (mtm_is) (small).mtm_small,
       rw (premium_is) (small).premium_small,
@@ -80,4 +74,3 @@ returns c =
     ∷ told c.larger.type_inv (c.larger.ensures ∙ ap margin_of (total_is)) i
     ∷ told c.larger-2.type_inv (c.larger-2.ensures ∙ ap margin_of (told c.sub.type_inv (c.sub.ensures ∙ minus_is))) i ∷ [])
     ∙ line_is y.day.now (entry y.nets.now) (entry y.dvps.now) y.book y.g (a) c.group_amounts-sums.ensures
-

@@ -1,12 +1,5 @@
 use Rattle.std.proofs.Common.{refl}
-use Rattle.std.proofs.Common.{rules, ◌≡◌, ◌+◌, ◌<◌, ℕ, ◌-◌, ◌*◌, ◌≤◌, length, ◌/◌, ◌%◌, Bool, true, false, nat_eq, nat_lt, List, [], ◌∷◌, ◌++◌, slice_index_or, slice_set, bit_and, bit_or, Fits, w8, w32, w64, Bor, MutBor, ℤ, pos, ◌+ℤ◌, ◌-ℤ◌, ◌*ℤ◌, ◌≤ℤ◌, ◌<ℤ◌, FitsSigned, to_z, of_z, nat_abs, ◌∙◌, arith, SFits}
-use Rattle.model.specs.DayFile.{class_count}
-use Rattle.model.proofs.Records.{Budget}
-use Rattle.classes.specs.Tables.{entry, Given}
-use Rattle.classes.specs.Range.{Range}
-use Rattle.classes.specs.Starts.{start_table}
-use Rattle.margin.specs.Groups.{Small, no_amounts, added, class_amounts, amounts_below}
-use Rattle.model.specs.Limits.{group_count}
+use Rattle.std.proofs.Common.{◌≡◌, ◌≤◌, w64, ℤ, ◌+ℤ◌, to_z, of_z, nat_abs, ◌∙◌, arith, SFits}
 use Rattle.margin.proofs.group.Amounts.add.Goals as goal
 use Rattle.model.specs.Limits.{mtm_limit}
 use Rattle.numbers.specs.Abs.{back}
@@ -31,4 +24,3 @@ returns c =
       minimum = told c.add-4.type_inv (c.add-4.ensures ∙ sum_is c.args.self.minimum c.args.more.minimum (omega (arith, c.requires.small.minimum_small)) (omega (arith, c.requires.small_2.minimum_small))) i;
       points = record { at = c.plus-sum.ensures i };
     }
-
