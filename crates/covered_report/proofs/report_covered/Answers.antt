@@ -1,4 +1,4 @@
-use Rattle.std.proofs.Common.{rules, ◌≡◌, length, ℕ, ◌+◌, ◌-◌, ◌*◌, ◌<◌, ◌≤◌, ◌/◌, ◌%◌, Bool, true, false, nat_eq, nat_lt, List, [], ◌∷◌, ◌++◌, slice_index_or, slice_set, bit_and, bit_or, Fits, w8, w32, w64, Bor, MutBor, sym, ◌∙◌, ap}
+use Rattle.std.proofs.Common.{rules, ◌≡◌, length, ℕ, ◌+◌, ◌-◌, ◌*◌, ◌<◌, ◌≤◌, ◌/◌, ◌%◌, Bool, true, false, nat_eq, nat_lt, List, [], ◌∷◌, ◌++◌, slice_index_or, slice_set, bit_and, bit_or, Fits, w8, w32, w64, Bor, MutBor, ◌∙◌, sym, ap}
 use Rattle.model.specs.Calls.{answer_of, room_answer, written}
 use Rattle.model.specs.DepositChecks.{deposit_check}
 use Rattle.model.specs.Netting.{position_count}
@@ -24,9 +24,8 @@ returns-then-deposits-eq0 c =
     let v = entry c.args.dvps.now in
     let m = c.args.memory.now in
     let room : Answer = room_answer (words_needed d n v) (length m) in
-    let r = c.report_accepted in
     let e = c.if-deposits-eq0.true in
-    record { value = r.ensures.0 ∙ none_answered (d) (x) e (room); memory_after = r.ensures.1 ∙ ap (λ (w : List ℕ). written r.result w (m)) (none_reported_lem (d) (x) e (n) (v)) }
+    record { value = c.report_accepted.ensures.value ∙ none_answered (d) (x) e (room); memory_after = c.report_accepted.ensures.memory_after ∙ ap (λ (w : List ℕ). written c.report_accepted.result w (m)) (none_reported_lem (d) (x) e (n) (v)) }
 
 pub check_deposits-requires : goal.check_deposits-requires
 check_deposits-requires c =
@@ -37,6 +36,6 @@ pub report_reduced-requires : goal.report_reduced-requires
 report_reduced-requires c =
     let d = c.args.day.now in
     let x = c.args.deposits.now in
-    let passed : deposit_check (d) (x) ≡ Passed = sym c.check_deposits.ensures ∙ c.enum_told-1.given.1 in
+    let passed : deposit_check (d) (x) ≡ Passed = sym c.check_deposits.ensures ∙ c.in_default.is in
     record { day_rows = c.requires.day_rows; deposit_rows = deposit_checked (d) (x) (passed); budget = c.requires.budget; starts_value = c.requires.starts_value; nets_len = c.requires.nets_len }
 

@@ -20,10 +20,9 @@ cover-requires c =
 
 pub report_accepted-requires : goal.report_accepted-requires
 report_accepted-requires c =
-    let k = c.cover in record { day_rows = c.requires.day_rows; budget = after_budget c.args.day.now c.args.deposits.now c.args.nets.now c.args.dvps.now k.new.1.1.1.1.0 c.requires.day_rows k.ensures c.requires.budget; starts_value = c.requires.starts_value }
+    record { day_rows = c.requires.day_rows; budget = after_budget c.args.day.now c.args.deposits.now c.args.nets.now c.args.dvps.now c.cover.new.after c.requires.day_rows c.cover.ensures c.requires.budget; starts_value = c.requires.starts_value }
 
 pub returns : goal.returns
 returns c =
-    let k = c.cover in
-    let r = c.report_accepted in record { value = r.ensures.0; memory_after = r.ensures.1 ∙ ap (λ (w : List ℕ). written r.result w c.args.memory.now) (after_reported c.args.day.now c.args.deposits.now c.args.nets.now c.args.dvps.now k.new.1.1.1.1.0 c.requires.day_rows k.ensures) }
+    record { value = c.report_accepted.ensures.value; memory_after = c.report_accepted.ensures.memory_after ∙ ap (λ (w : List ℕ). written c.report_accepted.result w c.args.memory.now) (after_reported c.args.day.now c.args.deposits.now c.args.nets.now c.args.dvps.now c.cover.new.after c.requires.day_rows c.cover.ensures) }
 
