@@ -75,4 +75,3 @@ returns c =
     ∙ ap (λ (j : ℕ). answer_of (deposit_check (d) (x)) (room_answer j (length (m)))) (tables_needed (d) (b) (x) (days) c.net_positions.new.nets c.net_positions.new.dvps c.net_positions.ensures.nets_after c.net_positions.ensures.dvps_after)
     ∙ answer-deposits (d) (b) (x) (length (m)) c.requires.day_value c.requires.batch_value (passed)
     in record { value = e; memory_after = c.report_covered.ensures.memory_after ∙ ap (λ (w : List ℕ). written c.report_covered.result w (m)) (tables_report (d) (b) (x) (days) c.net_positions.new.nets c.net_positions.new.dvps c.net_positions.ensures.nets_after c.net_positions.ensures.dvps_after) ∙ memory_of (d) (b) (x) (m) c.report_covered.result e }
-

@@ -38,4 +38,3 @@ report_reduced-requires c =
     let x = c.args.deposits.now in
     let passed : deposit_check (d) (x) ≡ Passed = sym c.check_deposits.ensures ∙ c.in_default.is in
     record { day_rows = c.requires.day_rows; deposit_rows = deposit_checked (d) (x) (passed); budget = c.requires.budget; starts_value = c.requires.starts_value; nets_len = c.requires.nets_len }
-

@@ -25,4 +25,3 @@ report_accepted-requires c =
 pub returns : goal.returns
 returns c =
     record { value = c.report_accepted.ensures.value; memory_after = c.report_accepted.ensures.memory_after ∙ ap (λ (w : List ℕ). written c.report_accepted.result w c.args.memory.now) (after_reported c.args.day.now c.args.deposits.now c.args.nets.now c.args.dvps.now c.cover.new.after c.requires.day_rows c.cover.ensures) }
-

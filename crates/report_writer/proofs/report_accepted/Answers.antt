@@ -33,4 +33,3 @@ returns c =
     let needed : words ≡ words_needed d n v = ap words_for c.index.ensures ∙ needed_is d n v c.line_count-count.result c.book_map-ordinary.result c.book_map-fail.result c.line_count-count.ensures.0 c.book_map-ordinary.ensures.0 c.book_map-fail.ensures.0 in
     let m = c.args.memory.now in
     let h : words ≤ length m = c.if-memory-needed.false in record { value = rw (← needed, le-leb (words) (length m) h); memory_after = c.write_report.ensures ∙ put_front (report_words (d) (n) (u) (v)) m ∙ ap (λ (x : ℕ). report_words (d) (n) (u) (v) ++ drop x m) (report-length (d) (n) (u) (v) ∙ sym (needed)) }
-

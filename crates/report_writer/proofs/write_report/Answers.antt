@@ -70,7 +70,7 @@ returns c =
     let room : words_for (ones c.args.ordinary + ones c.args.fail) ≤ length m = omega (arith, c.requires.count_value.0, c.requires.count_value.1) in
     let ordinary_put : c.write_book-ordinary_total.new.memory ≡ put 0 (first ++ book_lines (d) (n) (u) (v) 0) (m) = c.write_book-ordinary_total.ensures.memory_after ∙ ap (put 3 (book_lines (d) (n) (u) (v) 0)) c.write_maps.ensures ∙ put-put 0 (first) (book_lines (d) (n) (u) (v) 0) (m) 3 (omega arith) (omega (arith, ordinary_lines, room)) in
     let both_put : c.write_book-fail_total.new.memory ≡ put 0 lines (m) = c.write_book-fail_total.ensures.memory_after ∙ ap (put (3 + words_a_line * c.index.result) (book_lines (d) (n) (u) (v) 1)) (ordinary_put) ∙ put-put 0 (first ++ book_lines (d) (n) (u) (v) 0) (book_lines (d) (n) (u) (v) 1) (m) (3 + words_a_line * c.index.result) (omega (arith, c.index.ensures, ordinary_lines, length-append (first) (book_lines (d) (n) (u) (v) 0))) (omega (arith, c.index.ensures, fail_lines, room)) in
-    let lines_long : length lines ≡ 3 + words_a_line * c.args.count = omega ( arith, length-append (first ++ book_lines (d) (n) (u) (v) 0) (book_lines (d) (n) (u) (v) 1), length-append (first) (book_lines (d) (n) (u) (v) 0), ordinary_lines, fail_lines, c.requires.count_value.0, ) in
+    let lines_long : length lines ≡ 3 + words_a_line * c.args.count = omega (arith, length-append (first ++ book_lines (d) (n) (u) (v) 0) (book_lines (d) (n) (u) (v) 1), length-append (first) (book_lines (d) (n) (u) (v) 0), ordinary_lines, fail_lines, c.requires.count_value.0) in
     let ordinary_is : to_z w64 (of_z w64 c.write_book-ordinary_total.result) ≡ total (d) (n) (u) (v) 0 = back c.write_book-ordinary_total.ensures.value (total_small (d) (u) (v) c.requires.day_rows c.requires.budget (n) 0 (omega arith)) in
     let fail_is : to_z w64 (of_z w64 c.write_book-fail_total.result) ≡ total (d) (n) (u) (v) 1 = back c.write_book-fail_total.ensures.value (total_small (d) (u) (v) c.requires.day_rows c.requires.budget (n) 1 (omega arith)) in
     let totals_are : (to_z w64 (of_z w64 c.write_book-ordinary_total.result) ∷ to_z w64 (of_z w64 c.write_book-fail_total.result) ∷ to_z w64 (of_z w64 c.add.result) ∷ []) ≡ totals (d) (n) (u) (v) = let e = told c.add.type_inv c.add.ensures ∙ (λ i. ordinary_is i +ℤ fail_is i) in λ i. ordinary_is i ∷ fail_is i ∷ e i ∷ [] in
@@ -100,4 +100,3 @@ write_headed_at-requires c =
     let fail_is : to_z w64 (of_z w64 c.write_book-fail_total.result) ≡ total (d) (n) (u) (v) 1 = back c.write_book-fail_total.ensures.value (total_small (d) (u) (v) c.requires.day_rows c.requires.budget (n) 1 (omega arith)) in
     let totals_are : (to_z w64 (of_z w64 c.write_book-ordinary_total.result) ∷ to_z w64 (of_z w64 c.write_book-fail_total.result) ∷ to_z w64 (of_z w64 c.add.result) ∷ []) ≡ totals (d) (n) (u) (v) = let e = told c.add.type_inv c.add.ensures ∙ (λ i. ordinary_is i +ℤ fail_is i) in λ i. ordinary_is i ∷ fail_is i ∷ e i ∷ [] in
     record { kind_bound = (omega arith, omega arith); amounts_in_bounds = (omega (arith, c.index-2.ensures, both_kept, c.requires.count_value.1), subst Small (sym (totals_are)) (small)) }
-

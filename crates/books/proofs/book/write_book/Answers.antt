@@ -43,7 +43,7 @@ write_group-p-requires c =
     let few : ones c.args.map ≤ group_count = ones-le group_count c.args.map (omega (arith, c.requires.map_value, map_small d n v k)) in
     let m = c.args.memory.now in
     let long : length c.loop-g.memory ≡ length m = ap length c.loop-g.invariant.3 ∙ put-length c.args.at (lines_below d n u v k c.loop-g.g) m (omega (arith, below_all d n u v k c.loop-g.g c.args.map c.loop-g.invariant.0 c.requires.map_value, c.requires.at_bound.1)) in
-    let h : c.loop-g.g < group_count = omega (arith, c.loop-g-test.true) in record { day_rows = c.requires.day_rows; budget = c.requires.budget; book_bound = (c.requires.book_bound, h); starts_value = c.requires.starts_value; map_value = c.requires.map_value; at_bound = ( omega (arith, c.loop-g.invariant.1, few, below_all (d) (n) (u) (v) (k) c.loop-g.g c.args.map c.loop-g.invariant.0 c.requires.map_value, c.requires.at_bound.0), omega (arith, c.loop-g.invariant.1, long, below_room (d) (n) (u) (v) (k) c.loop-g.g c.args.map h c.requires.map_value, c.requires.at_bound.1), ); total_value = c.loop-g.invariant.2 }
+    let h : c.loop-g.g < group_count = omega (arith, c.loop-g-test.true) in record { day_rows = c.requires.day_rows; budget = c.requires.budget; book_bound = (c.requires.book_bound, h); starts_value = c.requires.starts_value; map_value = c.requires.map_value; at_bound = (omega (arith, c.loop-g.invariant.1, few, below_all (d) (n) (u) (v) (k) c.loop-g.g c.args.map c.loop-g.invariant.0 c.requires.map_value, c.requires.at_bound.0), omega (arith, c.loop-g.invariant.1, long, below_room (d) (n) (u) (v) (k) c.loop-g.g c.args.map h c.requires.map_value, c.requires.at_bound.1)); total_value = c.loop-g.invariant.2 }
 
 pub loop-g-preserved : goal.loop-g-preserved
 loop-g-preserved c =
@@ -77,4 +77,3 @@ returns c =
     let m = c.args.memory.now in
     let e : c.loop-g.g ≡ group_count = omega arith in
     let q = c.loop-g.invariant.2 ∙ ap (λ (j : ℕ). sum_where j (has_line (d) (n) (v) (k)) (margin (d) (u) (v) (k))) e in record { value = back q (total_small (d) (u) (v) c.requires.day_rows c.requires.budget (n) (k) c.requires.book_bound); memory_after = c.loop-g.invariant.3 ∙ ap (λ (j : ℕ). put c.args.at (lines_below (d) (n) (u) (v) (k) j) (m)) e }
-

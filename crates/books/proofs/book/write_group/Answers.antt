@@ -98,4 +98,3 @@ returns c =
     let sum_is : to_z w64 (of_z w64 c.args.p.total) +ℤ to_z w64 (of_z w64 c.group_line-line.result.margin) ≡ sum_where (g + 1) (t) (margin (d) (u) (v) (k)) = (λ i. back c.requires.total_value (total_so_far (d) (u) (v) c.requires.day_rows c.requires.budget (n) (k) (g) c.requires.book_bound.0 (omega (arith, c.requires.book_bound.1))) i +ℤ back margin_is (margin_small (d) (u) (v) c.requires.day_rows c.requires.budget (k) (g) c.requires.book_bound.0 c.requires.book_bound.1) i) ∙ sym (sum_where_yes (g) (t) (margin (d) (u) (v) (k)) held) in
     let line_is : word 2 (g + 32 * k) ∷ words_of_amounts (line_amounts (d) (u) (v) (k) (g)) ≡ line_words (d) (u) (v) (k) (g) = refl in
     rw (one) record { at_value = omega (arith, line-length (d) (u) (v) (k) (g)); total_value_2 = told c.add.type_inv c.add.ensures ∙ sum_is; memory_after = c.write_headed_at.ensures ∙ (λ i. put (c).args.p.at (word 2 (g + 32 * k) ∷ words_of_amounts (words i)) (c).args.memory.now) ∙ ap (λ (w : List ℕ). put (c).args.p.at w (c).args.memory.now) (line_is) }
-

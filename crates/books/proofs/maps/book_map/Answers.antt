@@ -36,8 +36,7 @@ pub loop-g-preserved : goal.loop-g-preserved
 loop-g-preserved c =
     let t = has_line c.args.day.now (entry c.args.nets.now) (entry c.args.dvps.now) c.args.book in
     let g = c.loop-g.g in
-    let flag_is : get_or c.groups_held-held.result g false ≡ t g = ap (λ l. get_or l g false) c.groups_held-held.ensures ∙ get_or-tabulate group_flags t g false (omega arith) in
-    (
+    let flag_is : get_or c.groups_held-held.result g false ≡ t g = ap (λ l. get_or l g false) c.groups_held-held.ensures ∙ get_or-tabulate group_flags t g false (omega arith) in (
       omega arith,
       c.with_bit-map.ensures ∙ map_more (t) (g) c.loop-g.map c.loop-g.bit _ c.loop-g.invariant.1 c.loop-g.invariant.2 (flag_is),
       power_more (g) c.loop-g.bit c.loop-g.invariant.2,
@@ -50,4 +49,3 @@ returns c =
     let h = has_line c.args.day.now (entry c.args.nets.now) (entry c.args.dvps.now) c.args.book in
     let q = c.loop-g.invariant.1 ∙ ap (map_below h) e in
     (q, omega (arith, q, map_lt h group_count))
-
