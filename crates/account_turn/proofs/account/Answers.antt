@@ -31,4 +31,3 @@ returns c =
     let m = c.args.memory.now in
     let small : (r : Answer) → r ≡ answer d b [] (length m) → (r ≡ answer d b [] (length m)) × (value_of r < 2 ^ 32) = λ r e. (e, omega (arith, ap value_of e, value_small d b [] (length m))) in
     record { value = small _ c.report_of_day.ensures.value; memory_after = c.report_of_day.ensures.memory_after }
-

@@ -7,4 +7,3 @@ use Rattle.locality.specs.Edits.{local_edit}
 pub returns : goal.returns
 returns c =
     record { local_edit = local_edit c.args.day.now c.args.batch.now c.args.edited.now c.args.deposits.now c.args.edited_deposits.now c.args.memory.now c.args.other.now c.report.new.memory c.report-2.new.memory c.report.ensures.memory c.report-2.ensures.memory; memory_after = (c.report.ensures.memory, c.report-2.ensures.memory) }
-

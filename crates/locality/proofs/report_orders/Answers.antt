@@ -7,4 +7,3 @@ use Rattle.locality.specs.Edits.{same_order}
 pub returns : goal.returns
 returns c =
     record { same_order = same_order c.args.day.now c.args.batch.now c.args.reordered.now c.args.deposits.now c.args.reordered_deposits.now c.args.memory.now c.args.other.now c.report-answer.new.memory c.report-reordered_answer.new.memory c.report-answer.result c.report-reordered_answer.result c.report-answer.ensures.memory c.report-reordered_answer.ensures.memory c.report-answer.ensures.result c.report-reordered_answer.ensures.result; memory_after = (c.report-answer.ensures.memory, c.report-reordered_answer.ensures.memory); batch_value = (c.report-answer.ensures.result, c.report-reordered_answer.ensures.result) }
-

@@ -17,4 +17,3 @@ pub starts-starts-requires : goal.starts-starts-requires
 starts-starts-requires c =
     let fine : day_check c.args.day.now ≡ Passed = sym c.requires ∙ c.in_default.is in
     day_checked c.args.day.now (fine)
-

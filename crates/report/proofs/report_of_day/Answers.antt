@@ -11,4 +11,3 @@ pub returns-in-Failed : goal.returns-in-Failed
 returns-in-Failed c =
     let e = answer_batch c.args.day.now c.args.batch.now c.args.deposits.now (length c.args.memory.now) _ c.requires.day_value (sym c.check_batch.ensures ∙ c.in-Failed.is) in
     record { value = e; memory_after = memory_of c.args.day.now c.args.batch.now c.args.deposits.now c.args.memory.now _ e }
-
