@@ -1,5 +1,5 @@
 -- Single calls in turn (U1): the reports stand end to end and the words behind them remain; each account's two numbers stand at its place and the entries behind them remain; a refused account writes nothing.
-use Rattle.std.specs.Prelude.{◌≡◌, Bool, true, length, drop}
+use Rattle.std.specs.Prelude.{◌≡◌, Bool, true, length, drop, Ok, Err}
 use Rattle.std.proofs.Math.Path.{refl, sym, ap}
 use Rattle.std.proofs.Common.{◌∙◌, arith, length-drop, drop_at, drop-drop}
 use mathlib.Core.List.{List, [], ◌++◌, append_assoc}
@@ -8,8 +8,7 @@ use Rattle.std.proofs.Math.ListN.{take, length-append}
 use Rattle.std.proofs.Math.Seq.{take_at}
 use Rattle.numbers.specs.Maps.{blocks, block_read}
 use Rattle.numbers.specs.Put.{put, put-none, put_front, put-put}
-use Rattle.model.specs.declared.Answer.{Answer}
-use Rattle.model.specs.declared.Answer.TheVariants.{Report, Refused}
+use Rattle.model.specs.Outcomes.{Answer}
 use Rattle.model.specs.declared.Check.{Check}
 use Rattle.model.specs.Netting.{net, dvp}
 use Rattle.model.specs.Calls.{answer, report, memory_after, written, net_after}
@@ -21,8 +20,8 @@ use Rattle.model.proofs.Outcome.{answer_by}
 
 -- what an answer writes of a report's words
 abbrev pub wrote : Answer → List ℕ → List ℕ
-wrote (Report n) w = w
-wrote (Refused k) w = []
+wrote (Ok n) w = w
+wrote (Err k) w = []
 
 wrote-long : (d b x : List ℕ) (room : ℕ) → length (wrote (answer d b x room) (report d b x)) ≡ words_in (answer d b x room)
 wrote-long d b x room =
@@ -30,8 +29,8 @@ wrote-long d b x room =
 
 -- the memory after it: what it wrote, then the words that were behind
 wrote_is : (a : Answer) (w m : List ℕ) → written a w m ≡ wrote a w ++ drop (words_in a) m
-wrote_is (Report n) w m = refl
-wrote_is (Refused k) w m = refl
+wrote_is (Ok n) w m = refl
+wrote_is (Err k) w m = refl
 
 after_is : (d b x m : List ℕ) (room : ℕ) → length m ≡ room → memory_after d b x m ≡ wrote (answer d b x room) (report d b x) ++ drop (words_in (answer d b x room)) m
 unfolding memory_after
@@ -86,7 +85,7 @@ module _ (d : List ℕ) (b : ℕ → List ℕ) (m : List ℕ) where
 
 module _ (d : List ℕ) (b : ℕ → List ℕ) (room : ℕ) where
   -- a refused account writes nothing, and the next starts where it did
-  pub refused_start : (i : ℕ) (k : Check) → answer_for d b room i ≡ Refused k → report_start d b room (suc i) ≡ report_start d b room i
+  pub refused_start : (i : ℕ) (k : Check) → answer_for d b room i ≡ Err k → report_start d b room (suc i) ≡ report_start d b room i
   unfolding report_start
   refused_start i k e = let z = ap words_in e in omega (arith, z)
 

@@ -1,8 +1,6 @@
 -- What a reader may cite about the two calls, for all inputs: an index of the statements.
-use Rattle.std.specs.Prelude.{◌≡◌, List, [], ℕ, ◌/◌, ◌≤◌, length}
-use Rattle.model.specs.declared.Answer.TheVariants.{Refused}
+use Rattle.std.specs.Prelude.{◌≡◌, List, [], ℕ, ◌/◌, ◌≤◌, length, Ok, Err}
 use Rattle.model.specs.declared.Check.{Check}
-use Rattle.model.specs.declared.Verdict.TheVariants.{Passed}
 use Rattle.model.specs.Rows.{◌or_else◌}
 use Rattle.model.specs.Calls.{verdict, Accepted, net_after, answer, needed, memory_after}
 use Rattle.model.specs.Bytes.{words_of, bytes_check, byte_answer, bytes_after}
@@ -17,7 +15,7 @@ use Rattle.model.specs.Netting.{net, dvp}
 
 pub record Corollaries : Type 0 where
   -- a refusal leaves the memory as it was
-  pub refused : (d b x m : List ℕ) (k : Check) → answer d b x (length m) ≡ Refused k → memory_after d b x m ≡ m
+  pub refused : (d b x m : List ℕ) (k : Check) → answer d b x (length m) ≡ Err k → memory_after d b x m ≡ m
   -- no call changes its length
   pub long : (d b x m : List ℕ) → length (memory_after d b x m) ≡ length m
   -- accepted, with room: the answer is the length, and header, maps, lines, totals and the old words stand in this order
@@ -31,11 +29,11 @@ pub record Corollaries : Type 0 where
 
 -- the byte call: the same of its refusals and its length; past rows 1 and 2 it is the call over words
 pub record ByteCorollaries : Type 0 where
-  pub refused : (day b m : List ℕ) (k : Check) → byte_answer day b (length m) ≡ Refused k → bytes_after day b m ≡ m
+  pub refused : (day b m : List ℕ) (k : Check) → byte_answer day b (length m) ≡ Err k → bytes_after day b m ≡ m
   pub long : (day b m : List ℕ) → length (bytes_after day b m) ≡ length m
   pub numbers : (day b : List ℕ) (room : ℕ)
       → Numbers (bytes_check day b or_else verdict (words_of day) (words_of b) []) (needed (words_of day) (words_of b)) (room / 4) (byte_answer day b room)
-  pub words : (day b m : List ℕ) → bytes_check day b ≡ Passed → words_of (bytes_after day b m) ≡ memory_after (words_of day) (words_of b) [] (words_of m)
+  pub words : (day b m : List ℕ) → bytes_check day b ≡ Ok tt → words_of (bytes_after day b m) ≡ memory_after (words_of day) (words_of b) [] (words_of m)
 
 pub corollaries : Corollaries
 corollaries =

@@ -12,7 +12,7 @@ use Rattle.numbers.specs.Lists.{nothing_hit}
 use Rattle.numbers.specs.Budget.{sum_n_where, sum_n_where_ext}
 use Rattle.numbers.specs.Order.{Order, by_place, larger_then, place_order, larger_order}
 use Rattle.numbers.specs.Taking.{left_at, before_more, left-sum}
-use Rattle.model.specs.declared.Verdict.{Verdict}
+use Rattle.model.specs.Outcomes.{Verdict}
 use Rattle.model.specs.Rows.{tried}
 use Rattle.model.specs.DayFile.{class_count, class_place, series_count, series_type, series_class, expiry, multiplier}
 use Rattle.model.specs.DayChecks.{day_check}

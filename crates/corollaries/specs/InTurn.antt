@@ -1,13 +1,11 @@
 -- What every call for many accounts does (U1), as a host reads it: each account's two numbers, start and words; what remains.
-use Rattle.std.specs.Prelude.{◌≡◌, List, [], length, take, drop}
+use Rattle.std.specs.Prelude.{◌≡◌, List, [], length, take, drop, Ok, Err}
 use Rattle.std.proofs.Math.Path.{refl}
 use Rattle.std.proofs.Common.{sym, ap, ◌∙◌, arith, ne_eqb, length-drop}
 use Prim.Native.Nat.{ℕ, zero, suc, ◌+◌, ◌-◌, ◌*◌, ◌≤◌, ◌<◌}
-use Rattle.model.specs.declared.Answer.{Answer}
-use Rattle.model.specs.declared.Answer.TheVariants.{Report, Refused}
+use Rattle.model.specs.Outcomes.{Answer}
 use Rattle.model.specs.declared.Check.{Check}
-use Rattle.model.specs.declared.Verdict.{Verdict}
-use Rattle.model.specs.declared.Verdict.TheVariants.{Passed, Failed}
+use Rattle.model.specs.Outcomes.{Verdict}
 use Rattle.model.specs.Answers.{number_of}
 use Rattle.model.specs.Calls.{answer_of, report}
 use Rattle.model.specs.ManyAccounts.{batch_of, result_numbers, accounts_check, words_in, pair_of, report_start, answer_for, memory_to, left_by, reports_answer, results_after, reports_after}
@@ -22,10 +20,10 @@ use Rattle.corollaries.specs.CallsInTurn.{wrote, words_for, words_read, memory-b
 
 -- the words that an answer's two numbers tell of
 length_pair : (a : Answer) → length_of (pair_of a) ≡ words_in a
-length_pair (Report n) = refl
-length_pair (Refused k) = rw (ne_eqb (number_of k) 0 (λ e. absurd (omega (arith, e, (numbered k).0))))
+length_pair (Ok n) = refl
+length_pair (Err k) = rw (ne_eqb (number_of k) 0 (λ e. absurd (omega (arith, e, (numbered k).0))))
 
-module _ (d bs ns rs m : List ℕ) (e : accounts_check bs ns (length rs) ≡ Passed) where
+module _ (d bs ns rs m : List ℕ) (e : accounts_check bs ns (length rs) ≡ Ok tt) where
   abbrev b : ℕ → List ℕ
   b = batch_of bs ns
 
@@ -52,29 +50,29 @@ module _ (d bs ns rs m : List ℕ) (e : accounts_check bs ns (length rs) ≡ Pas
 
 -- ---- every call
 
-refused_leaves : (v : Verdict) (done l done' l' : List ℕ) (n : ℕ) (c : Check) → answer_of v (Report n) ≡ Refused c → (left_by v done l ≡ l) × (left_by v done' l' ≡ l')
-refused_leaves Passed done l done' l' n c e = refused_not c n (sym e)
-refused_leaves (Failed k) done l done' l' n c e = (refl, refl)
+refused_leaves : (v : Verdict) (done l done' l' : List ℕ) (n : ℕ) (c : Check) → answer_of v (Ok n) ≡ Err c → (left_by v done l ≡ l) × (left_by v done' l' ≡ l')
+refused_leaves (Ok _) done l done' l' n c e = refused_not c n (sym e)
+refused_leaves (Err k) done l done' l' n c e = (refl, refl)
 
-nothing_written : (d bs ns rs m : List ℕ) (c : Check) → reports_answer d bs ns (length rs) (length m) ≡ Refused c
+nothing_written : (d bs ns rs m : List ℕ) (c : Check) → reports_answer d bs ns (length rs) (length m) ≡ Err c
     → (results_after d bs ns rs (length m) ≡ rs) × (reports_after d bs ns (length rs) m ≡ m)
 unfolding reports_answer results_after reports_after
 nothing_written d bs ns rs m c e = refused_leaves (accounts_check bs ns (length rs)) _ rs _ m _ c e
 
-answered : (v : Verdict) (s n : ℕ) → answer_of v (Report s) ≡ Report n → (v ≡ Passed) × (s ≡ n)
-answered Passed s n e = (refl, cc)
-answered (Failed k) s n e = refused_not k n e
+answered : (v : Verdict) (s n : ℕ) → answer_of v (Ok s) ≡ Ok n → (v ≡ Ok tt) × (s ≡ n)
+answered (Ok _) s n e = (refl, cc)
+answered (Err k) s n e = refused_not k n e
 
-words_behind : (d bs ns rs m : List ℕ) (n : ℕ) → reports_answer d bs ns (length rs) (length m) ≡ Report n → drop n (reports_after d bs ns (length rs) m) ≡ drop n m
+words_behind : (d bs ns rs m : List ℕ) (n : ℕ) → reports_answer d bs ns (length rs) (length m) ≡ Ok n → drop n (reports_after d bs ns (length rs) m) ≡ drop n m
 unfolding reports_answer
 words_behind d bs ns rs m n e =
     let r = answered (accounts_check bs ns (length rs)) (report_start d (batch_of bs ns) (length m) (length ns)) n e in
     (λ i. drop (sym r.1 i) (memory_past d bs ns (length rs) m r.0 i)) ∙ memory-behind d (batch_of bs ns) m (length ns) ∙ ap (λ (x : ℕ). drop x m) r.1
 
 -- a list that no account changes in length
-left-long : (v : Verdict) (done l : List ℕ) → (v ≡ Passed → length done ≡ length l) → length (left_by v done l) ≡ length l
-left-long Passed done l h = h refl
-left-long (Failed k) done l h = refl
+left-long : (v : Verdict) (done l : List ℕ) → (v ≡ Ok tt → length done ≡ length l) → length (left_by v done l) ≡ length l
+left-long (Ok _) done l h = h refl
+left-long (Err k) done l h = refl
 
 long_results_lem : (d bs ns rs : List ℕ) (room : ℕ) → length (results_after d bs ns rs room) ≡ length rs
 unfolding results_after

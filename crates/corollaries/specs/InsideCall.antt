@@ -1,5 +1,5 @@
 -- Demand 3 for each account inside the call for many accounts (U1), from demand 3 itself.
-use Rattle.std.specs.Prelude.{◌≡◌, ◌≢◌, length, drop}
+use Rattle.std.specs.Prelude.{◌≡◌, ◌≢◌, length, drop, Ok}
 use Rattle.std.proofs.Math.Path.{refl, ap}
 use Rattle.std.proofs.Common.{sym, ◌∙◌, subst, le_of_eq, arith, length-set, drop_of_length-le}
 use mathlib.Core.List.{List, [], ◌++◌, append-nil}
@@ -7,8 +7,6 @@ use Prim.Native.Nat.{ℕ, zero, suc, ◌+◌, ◌-◌, ◌*◌, ◌≤◌, ◌<�
 use Rattle.std.proofs.Math.Decide.{dec_lt}
 use Rattle.std.proofs.Math.ListN.{take}
 use Rattle.numbers.specs.Put.{put}
-use Rattle.model.specs.declared.Answer.TheVariants.{Report}
-use Rattle.model.specs.declared.Verdict.TheVariants.{Passed}
 use Rattle.model.specs.Limits.{group_count}
 use Rattle.model.specs.Netting.{net, dvp}
 use Rattle.model.specs.Calls.{Accepted, net_after, answer, needed, report, memory_after}
@@ -62,7 +60,7 @@ module _ (d : List ℕ) (b c : ℕ → List ℕ) (h : (i room : ℕ) → answer 
 
 -- ---- of an account in the call
 
-module _ (d bs ns x rs m : List ℕ) (j : ℕ) (l : j < length ns) (e : accounts_check bs ns (length rs) ≡ Passed) (a : Accepted d (batch_of bs ns j) []) (r : Reordered (batch_of bs ns j) x) where
+module _ (d bs ns x rs m : List ℕ) (j : ℕ) (l : j < length ns) (e : accounts_check bs ns (length rs) ≡ Ok tt) (a : Accepted d (batch_of bs ns j) []) (r : Reordered (batch_of bs ns j) x) where
   abbrev bs' : List ℕ
   bs' = edited_batches bs ns j x
 
@@ -95,7 +93,7 @@ module _ (d bs ns x rs m : List ℕ) (j : ℕ) (l : j < length ns) (e : accounts
   memories : (k : ℕ) (w : List ℕ) → memory_after d (b k) [] w ≡ memory_after d (b' k) [] w
   memories k w = each (λ y z. memory_after d y [] w ≡ memory_after d z [] w) (λ y. refl) (demand3.orders.memories d (b j) x [] [] w a r same_none) k
 
-  passed : accounts_check bs' ns' (length rs) ≡ Passed
+  passed : accounts_check bs' ns' (length rs) ≡ Ok tt
   passed = rows_pass bs' ns' (length rs) (edit_rows bs ns x (length rs) j l (accounts_checked bs ns (length rs) e))
 
   count : length ns ≡ length ns'
@@ -106,7 +104,7 @@ module _ (d bs ns x rs m : List ℕ) (j : ℕ) (l : j < length ns) (e : accounts
       record {
         answers =
             answer_past d bs ns (length rs) (length m) e
-            ∙ ap (λ (n : ℕ). Report n) (start_same d b b' answers (length m) (length ns) ∙ ap (report_start d b' (length m)) count)
+            ∙ ap (λ (n : ℕ). Ok n) (start_same d b b' answers (length m) (length ns) ∙ ap (report_start d b' (length m)) count)
             ∙ sym (answer_past d bs' ns' (length rs) (length m) passed);
         results =
             results_past d bs ns rs (length m) e

@@ -1,14 +1,11 @@
 -- Rows 22, 27 and 28 name a word of a record, the first at which their row holds. For every batch.
-use Rattle.std.specs.Prelude.{◌≡◌, refl, true, false, List, ℕ, zero, suc, ◌<◌}
+use Rattle.std.specs.Prelude.{◌≡◌, refl, true, false, List, ℕ, zero, suc, ◌<◌, Option, Some, None, Ok, Err}
 use Rattle.std.proofs.Common.{sym, ◌∙◌, subst, true≢false, arith}
-use Rattle.numbers.specs.declared.Found.{Found}
-use Rattle.numbers.specs.declared.Found.TheVariants.{At, Nothing}
 use Rattle.numbers.specs.Scan.{first_bad, first_at, first-before}
 use Rattle.model.specs.declared.Check.TheVariants.{BatchWords}
 use Rattle.model.specs.declared.BatchWordsFault.{BatchWordsFault}
 use Rattle.model.specs.declared.BatchWordsFault.TheVariants.{WrongKind, OutOfRange, MinusZero}
-use Rattle.model.specs.declared.Verdict.{Verdict}
-use Rattle.model.specs.declared.Verdict.TheVariants.{Passed, Failed}
+use Rattle.model.specs.Outcomes.{Verdict}
 use Rattle.model.specs.Rows.{found_row}
 use Rattle.model.specs.Batch.{record_count, batch_words}
 use Rattle.model.specs.BatchChecks.{at_word, row22, row27, row28, row_of, word_row, word_check}
@@ -28,9 +25,9 @@ header MinusZero b = refl
 
 module _ (b : List ℕ) where
   record Named (v : Verdict) : Type 0 where
-    named : (f : BatchWordsFault) (i : ℕ) → v ≡ Failed (BatchWords f i) → FirstWord f b i
+    named : (f : BatchWordsFault) (i : ℕ) → v ≡ Err (BatchWords f i) → FirstWord f b i
 
-  passed : Named Passed
+  passed : Named (Ok tt)
   passed = record { named = λ f i e. failed_not (BatchWords f i) (sym e) }
 
   word : (f : BatchWordsFault) → Named (word_row f b)
@@ -40,18 +37,18 @@ module _ (b : List ℕ) where
       above zero e = absurd (true≢false (sym e ∙ header f b))
       above (suc i) e = omega arith
 
-      first : (i : ℕ) → first_bad (row_of f b) (batch_words (record_count b)) ≡ At i → FirstWord f b i
+      first : (i : ℕ) → first_bad (row_of f b) (batch_words (record_count b)) ≡ Some i → FirstWord f b i
       first i e =
           let at = first_at (row_of f b) (batch_words (record_count b)) i e in
           record { inside = (above i at.1, at.0); holds = at.1; before = first-before (row_of f b) (batch_words (record_count b)) i e }
 
-      by : (x : Found) → first_bad (row_of f b) (batch_words (record_count b)) ≡ x → Named (found_row (BatchWords f) x)
-      by (At j) e =
+      by : (x : Option ℕ) → first_bad (row_of f b) (batch_words (record_count b)) ≡ x → Named (found_row (BatchWords f) x)
+      by (Some j) e =
           record {
             named = λ g i q. let p : f ≡ g = cc in let z : j ≡ i = cc in subst (λ (h : BatchWordsFault). FirstWord h b i) p (subst (FirstWord f b) z (first j e));
           }
-      by Nothing e = passed
+      by None e = passed
 
-  pub named_word : (f : BatchWordsFault) (i : ℕ) → word_check b ≡ Failed (BatchWords f i) → FirstWord f b i
+  pub named_word : (f : BatchWordsFault) (i : ℕ) → word_check b ≡ Err (BatchWords f i) → FirstWord f b i
   unfolding word_check
   named_word = (tried-each Named passed _ (word WrongKind then word OutOfRange then word MinusZero then tt)).named

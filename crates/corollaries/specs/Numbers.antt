@@ -1,11 +1,10 @@
 -- The two numbers of an answer, case by case: 0 and the length; 40 and the words needed; a refusal's number and place. The second is below 2 ^ 32.
-use Rattle.std.specs.Prelude.{◌≡◌, refl, List, [], ℕ, ◌/◌, ◌^◌, ◌≤◌, ◌<◌}
+use Rattle.std.specs.Prelude.{◌≡◌, refl, List, [], ℕ, ◌/◌, ◌^◌, ◌≤◌, ◌<◌, Ok, Err}
 use Rattle.std.proofs.Common.{sym, subst, le-leb}
 use Rattle.std.proofs.lemmas.Bool.{lt-leb}
-use Rattle.model.specs.declared.Answer.{Answer}
+use Rattle.model.specs.Outcomes.{Answer}
 use Rattle.model.specs.declared.Check.{Check}
-use Rattle.model.specs.declared.Verdict.{Verdict}
-use Rattle.model.specs.declared.Verdict.TheVariants.{Passed, Failed}
+use Rattle.model.specs.Outcomes.{Verdict}
 use Rattle.model.specs.Answers.{number_of, place_of, status_of, value_of}
 use Rattle.model.specs.Rows.{◌or_else◌}
 use Rattle.model.specs.Calls.{verdict, answer, answer_of, room_answer, needed}
@@ -14,15 +13,15 @@ use Rattle.model.proofs.Places.{value_small, byte_value_small}
 
 -- a the answer of a call whose rows above 40 say v, whose report has n words, and whose memory has room for so many
 pub record Numbers (v : Verdict) (n room : ℕ) (a : Answer) : Type 0 where
-  pub reported : v ≡ Passed → n ≤ room → (status_of a ≡ 0) × (value_of a ≡ n)
-  pub short : v ≡ Passed → room < n → (status_of a ≡ 40) × (value_of a ≡ n)
-  pub refused : (k : Check) → v ≡ Failed k → (status_of a ≡ number_of k) × (value_of a ≡ place_of k)
+  pub reported : v ≡ Ok tt → n ≤ room → (status_of a ≡ 0) × (value_of a ≡ n)
+  pub short : v ≡ Ok tt → room < n → (status_of a ≡ 40) × (value_of a ≡ n)
+  pub refused : (k : Check) → v ≡ Err k → (status_of a ≡ number_of k) × (value_of a ≡ place_of k)
   pub small : value_of a < 2 ^ 32
 
 -- rows that refuse, then others
 answer_or : (v w : Verdict) (a : Answer) → answer_of v (answer_of w a) ≡ answer_of (v or_else w) a
-answer_or Passed w a = refl
-answer_or (Failed k) w a = refl
+answer_or (Ok _) w a = refl
+answer_or (Err k) w a = refl
 
 module _ (n room : ℕ) where
   enough : n ≤ room → (status_of (room_answer n room) ≡ 0) × (value_of (room_answer n room) ≡ n)

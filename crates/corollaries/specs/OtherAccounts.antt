@@ -1,15 +1,13 @@
 -- An edit in one account moves nothing in another's report but its starting place (U1): with enough memory, each account gets what a single call gives it.
-use Rattle.std.specs.Prelude.{◌≡◌, List, [], length}
+use Rattle.std.specs.Prelude.{◌≡◌, List, [], length, Ok, Err}
 use Rattle.std.proofs.Math.Path.{refl}
 use Rattle.std.proofs.Common.{sym, ap, ◌∙◌, arith, le-leb, eq-eqb, le-ltb, length-set}
 use Prim.Native.Nat.{ℕ, zero, suc, ◌+◌, ◌-◌, ◌*◌, ◌≤◌, ◌<◌}
 use Rattle.std.proofs.Math.Decide.{le_ind}
-use Rattle.model.specs.declared.Answer.{Answer}
-use Rattle.model.specs.declared.Answer.TheVariants.{Report}
+use Rattle.model.specs.Outcomes.{Answer}
 use Rattle.model.specs.declared.AccountsFault.TheVariants.{BadLengths, ShortResults}
 use Rattle.model.specs.declared.Check.TheVariants.{Accounts}
-use Rattle.model.specs.declared.Verdict.{Verdict}
-use Rattle.model.specs.declared.Verdict.TheVariants.{Passed, Failed}
+use Rattle.model.specs.Outcomes.{Verdict}
 use Rattle.model.specs.Limits.{most_accounts}
 use Rattle.model.specs.Calls.{verdict, Accepted, answer, answer_of, room_answer, needed, report}
 use Rattle.model.specs.ManyAccounts.{words_before, batch_of, result_numbers, row60, row61, accounts_check, words_in, pair_of, report_start, answer_for}
@@ -24,9 +22,9 @@ use Rattle.corollaries.specs.InTurn.{pair_is, report_is}
 -- ---- enough memory
 
 -- with room for what it needs, an answer is the free one
-free_of : (v : Verdict) (n room : ℕ) → words_in (answer_of v (Report n)) ≤ room → answer_of v (room_answer n room) ≡ answer_of v (Report n)
-free_of Passed n room h = rw (le-leb n room h)
-free_of (Failed k) n room h = refl
+free_of : (v : Verdict) (n room : ℕ) → words_in (answer_of v (Ok n)) ≤ room → answer_of v (room_answer n room) ≡ answer_of v (Ok n)
+free_of (Ok _) n room h = rw (le-leb n room h)
+free_of (Err k) n room h = refl
 
 free_answer : (d b : List ℕ) (room : ℕ) → words_in (freely d b) ≤ room → answer d b [] room ≡ freely d b
 unfolding answer
@@ -65,7 +63,7 @@ module _ (d bs ns rs m : List ℕ) (q : Enough d bs ns rs m) (k : ℕ) (h : k < 
 
   -- an accepted account's report
   pub whole : Accepted d (batch_of bs ns k) [] → report_at d bs ns rs m k ≡ report d (batch_of bs ns k) []
-  whole e = free_report ∙ ap (λ (v : Verdict). wrote (answer_of v (Report (needed d (batch_of bs ns k)))) (report d (batch_of bs ns k) [])) e
+  whole e = free_report ∙ ap (λ (v : Verdict). wrote (answer_of v (Ok (needed d (batch_of bs ns k)))) (report d (batch_of bs ns k) [])) e
 
 -- any two calls of which account k has the same batch
 same_batch : (d bs₁ ns₁ rs₁ m₁ bs₂ ns₂ rs₂ m₂ : List ℕ) (k : ℕ) → k < length ns₁ → k < length ns₂ → Enough d bs₁ ns₁ rs₁ m₁ → Enough d bs₂ ns₂ rs₂ m₂
@@ -79,7 +77,7 @@ same_batch d bs₁ ns₁ rs₁ m₁ bs₂ ns₂ rs₂ m₂ k h₁ h₂ q₁ q₂
 -- ---- the claims
 
 -- rows 60 and 61, back
-pub rows_pass : (bs ns : List ℕ) (entries : ℕ) → AccountsRows bs ns entries → accounts_check bs ns entries ≡ Passed
+pub rows_pass : (bs ns : List ℕ) (entries : ℕ) → AccountsRows bs ns entries → accounts_check bs ns entries ≡ Ok tt
 unfolding accounts_check row60 row61
 rows_pass bs ns entries r =
     tried_pass _

@@ -1,8 +1,7 @@
 -- What the contract of the call over words rules out, each by an account on which the wrong program differs.
-use Rattle.std.specs.Prelude.{◌≡◌, refl, List, [], ◌∷◌, ◌++◌, ℕ, ◌+◌, ◌*◌, ◌^◌, ◌≤◌, ◌<◌, length, get_or, take, drop}
+use Rattle.std.specs.Prelude.{◌≡◌, refl, List, [], ◌∷◌, ◌++◌, ℕ, ◌+◌, ◌*◌, ◌^◌, ◌≤◌, ◌<◌, length, get_or, take, drop, Ok, Err}
 use Rattle.std.proofs.Common.{sym, ap, subst, ◌∙◌, arith, lit≤}
-use Rattle.model.specs.declared.Answer.{Answer}
-use Rattle.model.specs.declared.Answer.TheVariants.{Report, Refused}
+use Rattle.model.specs.Outcomes.{Answer}
 use Rattle.model.specs.declared.Check.{Check}
 use Rattle.model.specs.Words.{word}
 use Rattle.model.specs.Answers.{status_of}
@@ -36,8 +35,8 @@ OnReports p Q = (d b m : List ℕ) → Accepted d b [] → needed d b ≤ length
 
 -- 1 for a report, 0 for a refusal
 abbrev reports : Answer → ℕ
-reports (Report n) = 1
-reports (Refused k) = 0
+reports (Ok n) = 1
+reports (Err k) = 0
 
 -- a batch cut to its first record
 abbrev pub first_record : List ℕ → List ℕ
@@ -111,7 +110,7 @@ module _ (p : Program) (meets : Meets p) where
   leaves_before = meets.left day before [] memory
 
   -- it refuses always, with whichever refusals
-  pub not_refusing : ((d b x : List ℕ) (room : ℕ) → (k : Check) × (p.answers d b x room ≡ Refused k)) → ⊥
+  pub not_refusing : ((d b x : List ℕ) (room : ℕ) → (k : Check) × (p.answers d b x room ≡ Err k)) → ⊥
   not_refusing h =
       let z : ◌≡◌ {A = ℕ} 1 0 = sym before-reports ∙ ap reports (sym (meets.answered day before [] 80) ∙ (h day before [] 80).1) in
       absurd (omega arith)

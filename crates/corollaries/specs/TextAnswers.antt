@@ -1,17 +1,16 @@
 -- What is printed for a call, read back: the answer's number, a refusal's place, a report's line count and totals.
-use Rattle.std.specs.Prelude.{◌≡◌, refl, Bool, not, ◌||◌, ℕ, ◌≤◌, length, replicate}
+use Rattle.std.specs.Prelude.{◌≡◌, refl, Bool, not, ◌||◌, ℕ, ◌≤◌, length, replicate, Ok, Err, Option, Some}
 use Rattle.std.proofs.Common.{sym, ap, ◌∙◌, arith}
 use Rattle.std.proofs.Math.Bool.{true, false}
 use mathlib.Core.List.{List, [], ◌∷◌, ◌++◌}
 use Rattle.std.proofs.Math.ListN.{drop}
 use Rattle.std.proofs.lemmas.List.{length-replicate}
-use Rattle.model.specs.declared.Answer.{Answer}
-use Rattle.model.specs.declared.Answer.TheVariants.{Report, Refused}
+use Rattle.model.specs.Outcomes.{Answer}
 use Rattle.model.specs.declared.Check.{Check}
 use Rattle.model.specs.declared.Check.TheVariants.{Bytes}
 use Rattle.model.specs.declared.BytesFault.TheVariants.{DayFile, BatchFile}
 use Rattle.model.specs.declared.TextSays.{TextSays}
-use Rattle.model.specs.declared.TextSays.TheVariants.{Refusal}
+use Rattle.model.specs.declared.TextSays.TheVariants.{Report, Refusal}
 use Rattle.model.specs.Answers.{number_of, place_of, status_of, value_of}
 use Rattle.model.specs.Netting.{net, dvp}
 use Rattle.model.specs.Report.{line_count, longest_report}
@@ -26,7 +25,7 @@ use Rattle.corollaries.specs.Readable.{readable}
 use Rattle.corollaries.specs.Written.{accepted_writes}
 use Rattle.corollaries.specs.TextReading.{refusal_read_back, report_read_back}
 
-abbrev pub printed_says : List ℕ → List ℕ → List ℕ → List ℕ → TextSays
+abbrev pub printed_says : List ℕ → List ℕ → List ℕ → List ℕ → Option TextSays
 printed_says d b x m = text_says (printed (answer d b x (length m)) (memory_after d b x m))
 
 pub record TextReadBack (d b x m : List ℕ) : Type 0 where
@@ -35,39 +34,39 @@ pub record TextReadBack (d b x m : List ℕ) : Type 0 where
   -- the number is the answer's, 0 for a report
   pub number : text_number (printed_says d b x m) ≡ status_of (answer d b x (length m))
   -- the value of a refusal is its place
-  pub place : (k : Check) → answer d b x (length m) ≡ Refused k → text_value (printed_says d b x m) ≡ value_of (answer d b x (length m))
+  pub place : (k : Check) → answer d b x (length m) ≡ Err k → text_value (printed_says d b x m) ≡ value_of (answer d b x (length m))
   -- the line count and the totals of a report are those of the steps
   pub totals : Accepted d b x → needed d b ≤ length m → printed_says d b x m
-      ≡ TextSays.Report (record { lines = line_count d (net b) (dvp b); ordinary = total_of d (net b) (net_after d b x) (dvp b) 0; fail = total_of d (net b) (net_after d b x) (dvp b) 1; account = total_of d (net b) (net_after d b x) (dvp b) 2 })
+      ≡ Some (Report (record { lines = line_count d (net b) (dvp b); ordinary = total_of d (net b) (net_after d b x) (dvp b) 0; fail = total_of d (net b) (net_after d b x) (dvp b) 1; account = total_of d (net b) (net_after d b x) (dvp b) 2 }))
 
 number_of_lem : (a : Answer) (w : List ℕ) → text_number (answer_says a w) ≡ status_of a
-number_of_lem (Report n) w = refl
-number_of_lem (Refused k) w = refl
+number_of_lem (Ok n) w = refl
+number_of_lem (Err k) w = refl
 
 module _ (d b x m : List ℕ) where
-  says_refusal : (k : Check) → answer d b x (length m) ≡ Refused k → printed_says d b x m ≡ Refusal (number_of k) (place_of k)
+  says_refusal : (k : Check) → answer d b x (length m) ≡ Err k → printed_says d b x m ≡ Some (Refusal (number_of k) (place_of k))
   says_refusal k e = rw e (refusal_read_back k (memory_after d b x m) (rw e at (value_small d b x (length m))))
 
-  says_report : (n : ℕ) → answer d b x (length m) ≡ Report n → printed_says d b x m ≡ report_says (memory_after d b x m)
+  says_report : (n : ℕ) → answer d b x (length m) ≡ Ok n → printed_says d b x m ≡ report_says (memory_after d b x m)
   unfolding memory_after
   says_report n e =
       rw e (report_read_back n (report d b x ++ drop n m) (omega (arith, count_read_lem d (net b) (net_after d b x) (dvp b) (drop n m), count_small d (net b) (dvp b))))
 
   says_answer : (a : Answer) → answer d b x (length m) ≡ a → printed_says d b x m ≡ answer_says a (memory_after d b x m)
-  says_answer (Report n) e = says_report n e
-  says_answer (Refused k) e = says_refusal k e
+  says_answer (Ok n) e = says_report n e
+  says_answer (Err k) e = says_refusal k e
 
   says_steps : Accepted d b x → needed d b ≤ length m → printed_says d b x m
-      ≡ TextSays.Report (record { lines = line_count d (net b) (dvp b); ordinary = total_of d (net b) (net_after d b x) (dvp b) 0; fail = total_of d (net b) (net_after d b x) (dvp b) 1; account = total_of d (net b) (net_after d b x) (dvp b) 2 })
+      ≡ Some (Report (record { lines = line_count d (net b) (dvp b); ordinary = total_of d (net b) (net_after d b x) (dvp b) 0; fail = total_of d (net b) (net_after d b x) (dvp b) 1; account = total_of d (net b) (net_after d b x) (dvp b) 2 }))
   says_steps a h =
       let w = readable d b x m a h in
       says_report (needed d b) (accepted_writes d b x m a h).says
-      ∙ λ i. TextSays.Report (record {
+      ∙ λ i. Some (Report (record {
         lines = w.count i;
         ordinary = w.totals 0 (omega arith) i;
         fail = w.totals 1 (omega arith) i;
         account = w.totals 2 (omega arith) i;
-      })
+      }))
 
   pub text_read_back : TextReadBack d b x m
   text_read_back =

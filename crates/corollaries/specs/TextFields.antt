@@ -1,11 +1,9 @@
 -- A number and an amount that were written are read back.
-use Rattle.std.specs.Prelude.{◌≡◌, refl, Bool, true, false, cond, List, [], ◌∷◌, ◌++◌, ℕ, zero, suc, ◌+◌, ◌*◌, ◌-◌, ◌/◌, ◌%◌, ◌^◌, ◌≤◌, ◌<◌, ltb, ℤ, pos, negsuc, nat_abs, length, drop}
+use Rattle.std.specs.Prelude.{◌≡◌, refl, Bool, true, false, cond, List, [], ◌∷◌, ◌++◌, ℕ, zero, suc, ◌+◌, ◌*◌, ◌-◌, ◌/◌, ◌%◌, ◌^◌, ◌≤◌, ◌<◌, ltb, ℤ, pos, negsuc, nat_abs, length, drop, Some}
 use Rattle.std.proofs.Common.{sym, ◌∙◌, append_assoc, arith, length-append, drop_at}
 use Rattle.std.proofs.Math.Path.{ap}
 use Rattle.std.proofs.Math.Nat.{pow-succ'}
 use borrow.Author.Tests.{lt-ltb, le-leb, ne_eqb, ltb-true}
-use Rattle.model.specs.declared.NumberRead.TheVariants.{Number}
-use Rattle.model.specs.declared.AmountRead.TheVariants.{Amount}
 use Rattle.model.specs.Printed.{digits, decimal, signed_decimal, number_field}
 use Rattle.model.specs.TextReading.{begins, is_digit, digits_read, decimal_read, behind, field_read, amount_read}
 use Rattle.model.proofs.Digits.{digits_enough, digits-count}
@@ -46,12 +44,12 @@ digits_some k n = by (ltb n 10)
 
 -- what follows a number is no digit
 module _ (c : ℕ) (other : is_digit c ≡ false) (r : List ℕ) where
-  decimal_back : (n : ℕ) → n < 10 ^ 19 → decimal_read (decimal n ++ (c ∷ r)) ≡ Number n (length (decimal n))
+  decimal_back : (n : ℕ) → n < 10 ^ 19 → decimal_read (decimal n ++ (c ∷ r)) ≡ Some (n, length (decimal n))
   unfolding digits_read
   decimal_back n h =
       rw (digits_enough 18 n h) (digits_read_lem 19 n (omega arith) h (c ∷ r) ∙ rw (other, ne_eqb (length (digits 19 n)) 0 (λ e. omega (arith, e, digits_some 18 n))))
 
-  pub field_back : (n : ℕ) → n < 10 ^ 19 → field_read (number_field n ++ (c ∷ r)) ≡ Number n (1 + length (decimal n))
+  pub field_back : (n : ℕ) → n < 10 ^ 19 → field_read (number_field n ++ (c ∷ r)) ≡ Some (n, 1 + length (decimal n))
   unfolding field_read
   field_back n h = ap (behind 1) (decimal_back n h)
 
@@ -72,12 +70,12 @@ no_minus (suc k) n r = by (ltb n 10) (no_minus k (n / 10) ((48 + n % 10) ∷ r))
     by true e = no_minus-before n r
     by false e = ap (begins (45 ∷ [])) (append_assoc (digits (suc k) (n / 10)) ((48 + n % 10) ∷ []) r) ∙ e
 
-pub amount_back : (z : ℤ) → nat_abs z < 2 ^ 63 → (c : ℕ) → is_digit c ≡ false → (r : List ℕ) → amount_read ((32 ∷ signed_decimal z) ++ (c ∷ r)) ≡ Amount z (1 + length (signed_decimal z))
+pub amount_back : (z : ℤ) → nat_abs z < 2 ^ 63 → (c : ℕ) → is_digit c ≡ false → (r : List ℕ) → amount_read ((32 ∷ signed_decimal z) ++ (c ∷ r)) ≡ Some (z, 1 + length (signed_decimal z))
 unfolding amount_read
 amount_back (pos n) h c o r = rw (no_minus 19 n (c ∷ r), field_back c o r n (omega arith), lt-ltb n (2 ^ 63) h)
 amount_back (negsuc n) h c o r =
     rw (decimal_back c o r (suc n) (omega arith), lt-ltb 0 (suc n) (omega arith), lt-ltb (suc n) (2 ^ 63) h)
-    (ap (Amount (negsuc n)) (omega arith))
+    (ap (λ (k : ℕ). Some (negsuc n, k)) (omega arith))
 
 -- the text behind a field
 pub behind_field : (a r : List ℕ) → drop (1 + length a) ((32 ∷ a) ++ r) ≡ r

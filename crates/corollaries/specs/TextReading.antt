@@ -1,10 +1,9 @@
 -- Reading inverts the writing: the text of a refusal says its number and place, that of a report the count and the totals of its words.
-use Rattle.std.specs.Prelude.{◌≡◌, refl, List, [], ◌∷◌, ◌++◌, ℕ, ◌+◌, ◌*◌, ◌-◌, ◌^◌, ◌≤◌, ◌<◌, ℤ, nat_abs, length, drop, get_or}
+use Rattle.std.specs.Prelude.{◌≡◌, refl, List, [], ◌∷◌, ◌++◌, ℕ, ◌+◌, ◌*◌, ◌-◌, ◌^◌, ◌≤◌, ◌<◌, ℤ, nat_abs, length, drop, get_or, Ok, Err, Some}
 use Rattle.std.proofs.Common.{ap, ◌∙◌, append_assoc, arith, lt-ltb, le-leb, drop_at, get_or-take, get_or-drop}
-use Rattle.model.specs.declared.Answer.{Answer}
+use Rattle.model.specs.Outcomes.{Answer}
 use Rattle.model.specs.declared.Check.{Check}
-use Rattle.model.specs.declared.TextSays.{TextSays}
-use Rattle.model.specs.declared.TextSays.TheVariants.{Refusal}
+use Rattle.model.specs.declared.TextSays.TheVariants.{Report, Refusal}
 use Rattle.model.proofs.Sizes.{amount_small}
 use Rattle.model.specs.Answers.{number_of, place_of}
 use Rattle.model.specs.Reading.{count_in, total_in, amount_in}
@@ -17,7 +16,7 @@ use Rattle.model.specs.Limits.{most_lines}
 use Rattle.model.specs.Report.{words_a_line}
 
 totals_back : (n : ℕ) (x y z : ℤ) → nat_abs x < 2 ^ 63 → nat_abs y < 2 ^ 63 → nat_abs z < 2 ^ 63
-    → totals_read n ((32 ∷ signed_decimal x) ++ ((32 ∷ signed_decimal y) ++ ((32 ∷ signed_decimal z) ++ (10 ∷ [])))) ≡ TextSays.Report (record { lines = n; ordinary = x; fail = y; account = z })
+    → totals_read n ((32 ∷ signed_decimal x) ++ ((32 ∷ signed_decimal y) ++ ((32 ∷ signed_decimal z) ++ (10 ∷ [])))) ≡ Some (Report (record { lines = n; ordinary = x; fail = y; account = z }))
 unfolding totals_read fail_read account_read
 totals_back n x y z hx hy hz =
     let c = (32 ∷ signed_decimal z) ++ (10 ∷ []) in
@@ -32,7 +31,7 @@ totals_back n x y z hx hy hz =
     )
 
 numbers_back : (number place : ℕ) → 0 < number → number < 2 ^ 32 - 1 → place < 2 ^ 32
-    → refusal_read (number_field number ++ (number_field place ++ (10 ∷ []))) ≡ Refusal number place
+    → refusal_read (number_field number ++ (number_field place ++ (10 ∷ []))) ≡ Some (Refusal number place)
 unfolding refusal_read place_read
 numbers_back number place h l p =
     rw (
@@ -45,7 +44,7 @@ numbers_back number place h l p =
       lt-ltb place (2 ^ 32) p,
     )
 
-refusal_back : (number place : ℕ) → 0 < number → number < 2 ^ 32 - 1 → place < 2 ^ 32 → text_says (refusal_text number place) ≡ Refusal number place
+refusal_back : (number place : ℕ) → 0 < number → number < 2 ^ 32 - 1 → place < 2 ^ 32 → text_says (refusal_text number place) ≡ Some (Refusal number place)
 unfolding text_says refusal_text
 refusal_back number place h l p =
     ap (λ (t : List ℕ). refusal_read (32 ∷ t)) (append_assoc (decimal number) (number_field place) (10 ∷ [])) ∙ numbers_back number place h l p
@@ -83,12 +82,12 @@ report_back w h =
     rw (append_assoc, count_back n (lines_text w n ++ totals_text w i) h, totals_text_lem w i)
     (lines_back w n _
     ∙ totals_back n (amount_in w (i + 3 * 0)) (amount_in w (i + 3 * 1)) (amount_in w (i + 3 * 2)) (small w (i + 3 * 0)) (small w (i + 3 * 1)) (small w (i + 3 * 2))
-    ∙ λ k. TextSays.Report (record { lines = n; ordinary = total_at w 0 k; fail = total_at w 1 k; account = total_at w 2 k }))
+    ∙ λ k. Some (Report (record { lines = n; ordinary = total_at w 0 k; fail = total_at w 1 k; account = total_at w 2 k })))
 
 -- ---- the text of an answer
 
-pub refusal_read_back : (k : Check) (w : List ℕ) → place_of k < 2 ^ 32 → text_says (printed (Answer.Refused k) w) ≡ Refusal (number_of k) (place_of k)
+pub refusal_read_back : (k : Check) (w : List ℕ) → place_of k < 2 ^ 32 → text_says (printed (Err k) w) ≡ Some (Refusal (number_of k) (place_of k))
 refusal_read_back k w h = refusal_back (number_of k) (place_of k) (numbered k).0 (omega (arith, (numbered k).1)) h
 
-pub report_read_back : (n : ℕ) (w : List ℕ) → count_in w ≤ most_lines → text_says (printed (Answer.Report n) w) ≡ report_says w
+pub report_read_back : (n : ℕ) (w : List ℕ) → count_in w ≤ most_lines → text_says (printed (Ok n) w) ≡ report_says w
 report_read_back n w h = report_back w h

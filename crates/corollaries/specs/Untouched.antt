@@ -1,23 +1,21 @@
 -- What a call leaves as it was: a refusal writes nothing, and no call changes the length of the report memory. All inputs.
-use Rattle.std.specs.Prelude.{◌≡◌, refl, Bool, true, false, cond, List, [], ◌∷◌, ◌++◌, ℕ, ◌*◌, ◌/◌, ◌≤◌, leb, length, drop}
+use Rattle.std.specs.Prelude.{◌≡◌, refl, Bool, true, false, cond, List, [], ◌∷◌, ◌++◌, ℕ, ◌*◌, ◌/◌, ◌≤◌, leb, length, drop, Ok, Err}
 use Rattle.std.proofs.Common.{ap, arith, leb-true, length-append, length-drop}
-use Rattle.model.specs.declared.Answer.{Answer}
-use Rattle.model.specs.declared.Answer.TheVariants.{Report, Refused}
+use Rattle.model.specs.Outcomes.{Answer}
 use Rattle.model.specs.declared.Check.{Check}
 use Rattle.model.specs.declared.ReportFault.TheVariants.{TooShort}
-use Rattle.model.specs.declared.Verdict.{Verdict}
-use Rattle.model.specs.declared.Verdict.TheVariants.{Passed, Failed}
+use Rattle.model.specs.Outcomes.{Verdict}
 use Rattle.model.specs.Netting.{net, dvp}
 use Rattle.model.specs.Calls.{verdict, answer, answer_of, room_answer, needed, report, memory_after, net_after}
 use Rattle.model.specs.Bytes.{words_of, bytes_of, bytes_check, byte_answer, bytes_after, written_bytes}
 use Rattle.model.proofs.Length.{report-length}
 use Rattle.model.proofs.Outcome.{leaves_all}
 
-pub refused_writes_nothing : (d b x m : List ℕ) (k : Check) → answer d b x (length m) ≡ Refused k → memory_after d b x m ≡ m
+pub refused_writes_nothing : (d b x m : List ℕ) (k : Check) → answer d b x (length m) ≡ Err k → memory_after d b x m ≡ m
 unfolding memory_after
 refused_writes_nothing d b x m k e = leaves_all (answer d b x (length m)) k (report d b x) m e
 
-pub bytes_refused_writes_nothing : (day b m : List ℕ) (k : Check) → byte_answer day b (length m) ≡ Refused k → bytes_after day b m ≡ m
+pub bytes_refused_writes_nothing : (day b m : List ℕ) (k : Check) → byte_answer day b (length m) ≡ Err k → bytes_after day b m ≡ m
 unfolding bytes_after
 bytes_refused_writes_nothing day b m k e = ap (λ (a : Answer). written_bytes a (report (words_of day) (words_of b) []) m) e
 
@@ -34,13 +32,13 @@ four-each (w ∷ l) = omega (arith, four-each l)
 
 bytes_kept : (v c : Verdict) (n : ℕ) (w m : List ℕ) → length w ≡ n
     → length (written_bytes (answer_of v (answer_of c (room_answer n (length m / 4)))) w m) ≡ length m
-bytes_kept Passed Passed n w m e = by (leb n (length m / 4)) refl
+bytes_kept (Ok _) (Ok _) n w m e = by (leb n (length m / 4)) refl
   where
-    by : (t : Bool) → leb n (length m / 4) ≡ t → length (written_bytes (cond t (Report n) (Refused (Check.Report TooShort n))) w m) ≡ length m
+    by : (t : Bool) → leb n (length m / 4) ≡ t → length (written_bytes (cond t (Ok n) (Err (Check.Report TooShort n))) w m) ≡ length m
     by true q = over (bytes_of w) m (4 * n) (omega (arith, four-each w)) (omega (arith, leb-true n (length m / 4) q))
     by false q = refl
-bytes_kept Passed (Failed k) n w m e = refl
-bytes_kept (Failed k) c n w m e = refl
+bytes_kept (Ok _) (Err k) n w m e = refl
+bytes_kept (Err k) c n w m e = refl
 
 pub bytes_length_kept : (day b m : List ℕ) → length (bytes_after day b m) ≡ length m
 unfolding bytes_after byte_answer answer

@@ -1,12 +1,11 @@
 -- What stands in the report memory after a call that is accepted, with room: header, maps, lines, totals, and behind them the old words.
-use Rattle.std.specs.Prelude.{◌≡◌, Bool, true, false, cond, ℕ, zero, suc, ◌+◌, ◌*◌, ◌≤◌, ◌<◌, length, ℤ}
+use Rattle.std.specs.Prelude.{◌≡◌, Bool, true, false, cond, ℕ, zero, suc, ◌+◌, ◌*◌, ◌≤◌, ◌<◌, length, ℤ, Ok}
 use Rattle.std.proofs.Math.Path.{refl, sym, ap}
 use Rattle.std.proofs.Common.{◌∙◌, arith}
 use mathlib.Core.List.{List, [], ◌∷◌, ◌++◌, append_assoc}
 use Rattle.std.specs.Int.Count.{ones}
 use Rattle.std.proofs.Math.ListN.{get_or, drop}
 use Rattle.numbers.specs.Maps.{bit, bit_one}
-use Rattle.model.specs.declared.Answer.TheVariants.{Report}
 use Rattle.model.specs.Words.{word}
 use Rattle.model.specs.Netting.{net, dvp}
 use Rattle.model.specs.Steps.Lines.{has_line}
@@ -113,13 +112,13 @@ module _ (d : List ℕ) (n u v : ℕ → ℤ) where
             ∙ key-first k g;
       }
 
-answered : (d b x : List ℕ) (room : ℕ) → Accepted d b x → needed d b ≤ room → answer d b x room ≡ Report (needed d b)
+answered : (d b x : List ℕ) (room : ℕ) → Accepted d b x → needed d b ≤ room → answer d b x room ≡ Ok (needed d b)
 unfolding answer
 answered d b x room a h = outcome-passed (verdict d b x) (needed d b) room a h
 
 -- accepted, with room: the answer is a report of so many words, and the memory is laid out so
 pub record Written (d b x m : List ℕ) : Type 0 where
-  pub says : answer d b x (length m) ≡ Report (needed d b)
+  pub says : answer d b x (length m) ≡ Ok (needed d b)
   pub memory : Layout (needed d b) (memory_after d b x m) m
 
 pub accepted_writes : (d b x m : List ℕ) → Accepted d b x → needed d b ≤ length m → Written d b x m

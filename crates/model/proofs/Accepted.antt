@@ -1,10 +1,9 @@
 -- Accepted files: no row holds. And back: files at which no row holds are accepted.
+use Rattle.std.specs.Prelude.{Option, Some, None, Ok}
 use mathlib.Core.Path.{◌≡◌, refl}
 use mathlib.Core.Bool.{Bool, true, false}
 use mathlib.Core.List.{List}
 use Prim.Native.Nat.{ℕ, ◌+◌, ◌<◌}
-use Rattle.numbers.specs.declared.Found.{Found}
-use Rattle.numbers.specs.declared.Found.TheVariants.{At, Nothing}
 use Rattle.numbers.specs.Scan.{first_bad, first_clear, first-none}
 use Rattle.model.specs.declared.Check.{Check}
 use Rattle.model.specs.declared.Check.TheVariants.{DayHeader, DayLength, BatchHeader, BatchLength, Netting}
@@ -13,7 +12,6 @@ use Rattle.model.specs.declared.DayLengthFault.TheVariants.{BadDayLength}
 use Rattle.model.specs.declared.BatchHeaderFault.TheVariants.{BadBatchHeader}
 use Rattle.model.specs.declared.BatchLengthFault.TheVariants.{BadBatchLength}
 use Rattle.model.specs.declared.NettingFault.TheVariants.{BadDeposit}
-use Rattle.model.specs.declared.Verdict.TheVariants.{Passed}
 use Rattle.model.specs.Rows.{plain_row, found_row, record_row}
 use Rattle.model.specs.DayFile.{class_count, series_count}
 use Rattle.model.specs.DayChecks.{row10, row11, row12, row13, row14, row15, row16, row17, class_check, series_check, record_check, day_check}
@@ -25,21 +23,21 @@ use Rattle.model.specs.DepositChecks.{odd_words, row50, row51, deposit_check}
 use Rattle.model.specs.Calls.{verdict, Accepted}
 use Rattle.model.proofs.Verdicts.{◌then◌, failed_not, tried-passed, tried_pass}
 
-pub plain_clear : (k : ℕ → Check) (b : Bool) → plain_row k b ≡ Passed → b ≡ false
+pub plain_clear : (k : ℕ → Check) (b : Bool) → plain_row k b ≡ Ok tt → b ≡ false
 plain_clear k true e = failed_not (k 0) e
 plain_clear k false e = refl
 
-pub plain_back : (k : ℕ → Check) (b : Bool) → b ≡ false → plain_row k b ≡ Passed
+pub plain_back : (k : ℕ → Check) (b : Bool) → b ≡ false → plain_row k b ≡ Ok tt
 plain_back k b e = rw e
 
-found : (k : ℕ → Check) (f : Found) → found_row k f ≡ Passed → f ≡ Nothing
-found k (At i) e = failed_not (k i) e
-found k Nothing e = refl
+found : (k : ℕ → Check) (f : Option ℕ) → found_row k f ≡ Ok tt → f ≡ None
+found k (Some i) e = failed_not (k i) e
+found k None e = refl
 
-pub clear : (k : ℕ → Check) (t : ℕ → Bool) (n : ℕ) → record_row k t n ≡ Passed → (i : ℕ) → i < n → t i ≡ false
+pub clear : (k : ℕ → Check) (t : ℕ → Bool) (n : ℕ) → record_row k t n ≡ Ok tt → (i : ℕ) → i < n → t i ≡ false
 clear k t n e = first_clear t n (found k (first_bad t n) e)
 
-clear_back : (k : ℕ → Check) (t : ℕ → Bool) (n : ℕ) → ((i : ℕ) → i < n → t i ≡ false) → record_row k t n ≡ Passed
+clear_back : (k : ℕ → Check) (t : ℕ → Bool) (n : ℕ) → ((i : ℕ) → i < n → t i ≡ false) → record_row k t n ≡ Ok tt
 clear_back k t n h = rw (first-none t n h)
 
 pub record DayRows (d : List ℕ) : Type 0 where
@@ -74,7 +72,7 @@ pub record DepositRows (d x : List ℕ) : Type 0 where
   pub at50 : (i : ℕ) → i < deposit_count x → row50 d x i ≡ false
   pub at51 : (i : ℕ) → i < deposit_count x → row51 d x i ≡ false
 
-pub day_checked : (d : List ℕ) → day_check d ≡ Passed → DayRows d
+pub day_checked : (d : List ℕ) → day_check d ≡ Ok tt → DayRows d
 unfolding day_check record_check class_check series_check
 day_checked d e =
     let file = tried-passed _ e in
@@ -93,18 +91,18 @@ day_checked d e =
     }
 
 module _ (d x : List ℕ) where
-  pub deposit_checked : deposit_check d x ≡ Passed → DepositRows d x
+  pub deposit_checked : deposit_check d x ≡ Ok tt → DepositRows d x
   unfolding deposit_check
   deposit_checked e =
       let rows = tried-passed _ e in
       record { even = plain_clear (Netting BadDeposit) _ rows.0; at50 = clear _ _ _ rows.1.0; at51 = clear _ _ _ rows.1.1.0 }
 
-  pub deposits_pass : DepositRows d x → deposit_check d x ≡ Passed
+  pub deposits_pass : DepositRows d x → deposit_check d x ≡ Ok tt
   unfolding deposit_check
   deposits_pass r = tried_pass _ (plain_back (Netting BadDeposit) _ r.even then clear_back _ _ _ r.at50 then clear_back _ _ _ r.at51 then tt)
 
 module _ (d b : List ℕ) where
-  pub batch_checked : batch_check d b ≡ Passed → BatchChecks d b
+  pub batch_checked : batch_check d b ≡ Ok tt → BatchChecks d b
   unfolding batch_check batch_form word_check position_check
   batch_checked e =
       let batch = tried-passed _ e in
@@ -123,12 +121,12 @@ module _ (d b : List ℕ) where
         at26 = clear _ _ _ positions.1.1.1.0;
       }
 
-  pub netting_rows : netting_check d b ≡ Passed → (r : ℕ) → r < record_count b → row30 d b r ≡ false
+  pub netting_rows : netting_check d b ≡ Ok tt → (r : ℕ) → r < record_count b → row30 d b r ≡ false
   unfolding netting_check
   netting_rows e = clear _ _ _ e
 
 module _ (d b x : List ℕ) where
-  pub day-passed : Accepted d b x → day_check d ≡ Passed
+  pub day-passed : Accepted d b x → day_check d ≡ Ok tt
   unfolding verdict
   day-passed e = (tried-passed _ e).0
 
@@ -145,11 +143,11 @@ module _ (d b x : List ℕ) where
   unfolding verdict
   deposit_rows e = deposit_checked d x (tried-passed _ e).1.1.1.0
 
-  all_passed : day_check d ≡ Passed → batch_check d b ≡ Passed → netting_check d b ≡ Passed → deposit_check d x ≡ Passed → Accepted d b x
+  all_passed : day_check d ≡ Ok tt → batch_check d b ≡ Ok tt → netting_check d b ≡ Ok tt → deposit_check d x ≡ Ok tt → Accepted d b x
   unfolding verdict
   all_passed p q r z = tried_pass _ (p then q then r then z then tt)
 
-  pub rows_accepted : day_check d ≡ Passed → BatchRows d b → DepositRows d x → Accepted d b x
+  pub rows_accepted : day_check d ≡ Ok tt → BatchRows d b → DepositRows d x → Accepted d b x
   unfolding batch_check batch_form word_check position_check netting_check
   rows_accepted p r z =
       all_passed p

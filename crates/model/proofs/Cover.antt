@@ -1,4 +1,5 @@
 -- Laws of cover: which nets it changes, none to a larger one; and without a deposit none at all.
+use Rattle.std.specs.Prelude.{Ok}
 use mathlib.Core.Path.{◌≡◌, refl, sym, ap, ◌∙◌, fun_ext}
 use mathlib.Core.Bool.{Bool, true, false, ◌&&◌, cond}
 use mathlib.Core.List.{List, []}
@@ -10,7 +11,6 @@ use lib.Dec.{ltb}
 use lib.IntN.{ℤ, pos, negsuc, nat_abs}
 use Rattle.numbers.specs.Scan.{first_bad}
 use Rattle.numbers.specs.Budget.{sum_n}
-use Rattle.model.specs.declared.Verdict.TheVariants.{Passed}
 use Rattle.model.specs.Rows.{tried}
 use Rattle.model.specs.DayFile.{series_count, series_type, series_class, multiplier}
 use Rattle.model.specs.Netting.{position}
@@ -102,6 +102,6 @@ pub covered_no_deposits : (d : List ℕ) (net : ℕ → ℤ) → Steps.covered d
 covered_no_deposits d net = fun_ext (λ p. covered_kept d [] net p (no_shares d (series_class d p)))
 
 -- and meet no row
-pub no_deposits_pass : (d : List ℕ) → deposit_check d [] ≡ Passed
+pub no_deposits_pass : (d : List ℕ) → deposit_check d [] ≡ Ok tt
 unfolding deposit_check odd_words first_bad tried
 no_deposits_pass d = refl

@@ -1,4 +1,5 @@
 -- The one deposit of a class: the shares of a class are those of the deposit that names it, or none.
+use Rattle.std.specs.Prelude.{Option, Some, None, is_some, unwrap_or}
 use mathlib.Core.Path.{◌≡◌, refl, sym, ap, ◌∙◌}
 use mathlib.Core.Bool.{Bool, true, false, not, cond, true≢false}
 use mathlib.Core.Logic.{◌⊎◌, inl, inr}
@@ -8,24 +9,22 @@ use native.Mathlib.Decide.{ℕ_discrete, dec_lt}
 use native.Mathlib.Omega.{arith}
 use borrow.Author.Tests.{eq-eqb, eqb-true, ne_eqb, not-false}
 use lib.Dec.{eqb}
-use Rattle.numbers.specs.declared.Found.{Found}
-use Rattle.numbers.specs.declared.Found.TheVariants.{At, Nothing}
-use Rattle.numbers.specs.Scan.{first_bad, hit, first_at, first_clear}
+use Rattle.numbers.specs.Scan.{first_bad, first_at, first_clear}
 use Rattle.numbers.specs.Lists.{nothing_hit}
 use Rattle.numbers.specs.Budget.{sum_n_where, sum_n-zero, sum_n_ext, sum_n_one}
-use Rattle.model.specs.DayFile.{class_count, class_number, class_with, class_place, place_or}
+use Rattle.model.specs.DayFile.{class_count, class_number, class_with, class_place}
 use Rattle.model.specs.Deposits.{deposit_count, named_number, shares, shares_of}
 use Rattle.model.proofs.Accepted.{DepositRows}
 use Rattle.model.proofs.DepositOrders.{known, not-again}
 
 -- the class with a number that is known has this number
-pub place_number : (d : List ℕ) (n : ℕ) → not (hit (class_with d n)) ≡ false → class_number d (class_place d n) ≡ n
+pub place_number : (d : List ℕ) (n : ℕ) → not (is_some (class_with d n)) ≡ false → class_number d (class_place d n) ≡ n
 unfolding class_place
-place_number d n e = by (class_with d n) refl (not-false (hit (class_with d n)) e)
+place_number d n e = by (class_with d n) refl (not-false (is_some (class_with d n)) e)
   where
-    by : (f : Found) → class_with d n ≡ f → hit f ≡ true → class_number d (place_or f (class_count d)) ≡ n
-    by (At c) p q = eqb-true (class_number d c) n (first_at (λ c. eqb (class_number d c) n) (class_count d) c p).1
-    by Nothing p q = absurd (true≢false (sym q))
+    by : (f : Option ℕ) → class_with d n ≡ f → is_some f ≡ true → class_number d (unwrap_or f (class_count d)) ≡ n
+    by (Some c) p q = eqb-true (class_number d c) n (first_at (λ c. eqb (class_number d c) n) (class_count d) c p).1
+    by None p q = absurd (true≢false (sym q))
 
 module _ (d x : List ℕ) (r : DepositRows d x) where
   -- two deposits of one class are one
@@ -62,11 +61,11 @@ module _ (d x : List ℕ) (r : DepositRows d x) where
   unfolding shares_of
   named_or_none c = by (first_bad (λ i. eqb (class_place d (named_number x i)) c) (deposit_count x)) refl
     where
-      by : (f : Found) → first_bad (λ i. eqb (class_place d (named_number x i)) c) (deposit_count x) ≡ f
+      by : (f : Option ℕ) → first_bad (λ i. eqb (class_place d (named_number x i)) c) (deposit_count x) ≡ f
           → ((i : ℕ) × (i < deposit_count x) × (class_place d (named_number x i) ≡ c)) ⊎ (sum_n_where (deposit_count x) (λ i. eqb (class_place d (named_number x i)) c) (shares x) ≡ 0)
-      by (At i) p =
+      by (Some i) p =
           let z = first_at (λ i. eqb (class_place d (named_number x i)) c) (deposit_count x) i p in
           inl (i, z.0, eqb-true (class_place d (named_number x i)) c z.1)
-      by Nothing p =
+      by None p =
           inr (sum_n-zero (deposit_count x) (λ i. cond (eqb (class_place d (named_number x i)) c) (shares x i) 0)
           (λ i h. ap (λ (t : Bool). cond t (shares x i) 0) (first_clear (λ i. eqb (class_place d (named_number x i)) c) (deposit_count x) p i h)))

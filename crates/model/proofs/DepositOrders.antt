@@ -1,4 +1,5 @@
 -- The order of accepted deposits does not matter: in any order they are accepted. And there are 64 at most, as many as class numbers.
+use Rattle.std.specs.Prelude.{Option, Some, None, is_some}
 use mathlib.Core.Path.{◌≡◌, refl, sym, ap, ◌∙◌}
 use mathlib.Core.Bool.{Bool, true, false, not, ◌||◌, cond}
 use mathlib.Core.List.{List}
@@ -8,9 +9,7 @@ use borrow.Author.Tests.{eqb-true, le-ltb, ltb-false, not-false}
 use lib.Dec.{eqb, ltb}
 use lib.IntN.{ℤ, pos, nat_abs}
 use lib.ListN.{get_or}
-use Rattle.numbers.specs.declared.Found.{Found}
-use Rattle.numbers.specs.declared.Found.TheVariants.{At, Nothing}
-use Rattle.numbers.specs.Scan.{hit, first_at}
+use Rattle.numbers.specs.Scan.{first_at}
 use Rattle.numbers.specs.Budget.{sum-pos}
 use Rattle.numbers.specs.Lists.{clear_perm}
 use Rattle.numbers.specs.Perms.{sum_of, sum_to_of, sum-perm}
@@ -26,7 +25,7 @@ use Rattle.model.proofs.Accepted.{DepositRows}
 -- ---- the parts of row 50
 
 abbrev unknown : List ℕ → ℕ → Bool
-unknown d n = not (hit (class_with d n))
+unknown d n = not (is_some (class_with d n))
 
 abbrev too_many : ℕ → Bool
 too_many n = ltb shares_limit n
@@ -62,13 +61,13 @@ class_low : (d : List ℕ) (c : ℕ) → class_number d c < class_numbers
 class_low d c = omega arith
 
 number_low : (d : List ℕ) (n : ℕ) → unknown d n ≡ false → n < class_numbers
-number_low d n e = by (class_with d n) refl (not-false (hit (class_with d n)) e)
+number_low d n e = by (class_with d n) refl (not-false (is_some (class_with d n)) e)
   where
-    by : (f : Found) → class_with d n ≡ f → hit f ≡ true → n < class_numbers
-    by (At c) p q =
+    by : (f : Option ℕ) → class_with d n ≡ f → is_some f ≡ true → n < class_numbers
+    by (Some c) p q =
         let z = eqb-true (class_number d c) n (first_at (λ c. eqb (class_number d c) n) (class_count d) c p).1 in
         omega (arith, class_low d c)
-    by Nothing p q = absurd (let z : ◌≡◌ {A = ℕ} 0 1 = cc in omega arith)
+    by None p q = absurd (let z : ◌≡◌ {A = ℕ} 0 1 = cc in omega arith)
 
 -- the deposits below m meet nothing of row 50: then m is 64 at most
 pub few_passed : (d x : List ℕ) (m : ℕ) → ((i : ℕ) → i < m → row50 d x i ≡ false) → m ≤ class_numbers

@@ -1,4 +1,5 @@
 -- In an accepted day file the futures of a class stand by rising expiry, so the first place held is the earliest expiry held.
+use Rattle.std.specs.Prelude.{Option, Some, None, unwrap_or}
 use mathlib.Core.Path.{◌≡◌, refl, sym, ap, ◌∙◌}
 use mathlib.Core.Bool.{Bool, true, false, not, ◌&&◌, ◌||◌, true≢false}
 use mathlib.Core.List.{List}
@@ -10,11 +11,9 @@ use lib.Dec.{ltb, eqb}
 use native.Mathlib.Nat.{le_of_eq}
 use lib.IntN.{ℤ}
 use Rattle.numbers.specs.Fields.{four_fields}
-use Rattle.numbers.specs.declared.Found.{Found}
-use Rattle.numbers.specs.declared.Found.TheVariants.{At, Nothing}
 use Rattle.numbers.specs.Scan.{first_bad, first_at, first-before}
 use Rattle.model.specs.Words.{bits}
-use Rattle.model.specs.DayFile.{class_count, class_number, series_count, series_key, serial, expiry, series_type, series_class_number, strike, adjustment, is_future, is_option, is_derivative, is_security, found_class, place_or, series_class}
+use Rattle.model.specs.DayFile.{class_count, class_number, series_count, series_key, serial, expiry, series_type, series_class_number, strike, adjustment, is_future, is_option, is_derivative, is_security, found_class, series_class}
 use Rattle.model.specs.DayChecks.{row16, row17}
 use Rattle.model.specs.Steps.{not_zero, of_class, future_of, open_net, held_future}
 use Rattle.numbers.specs.Tests.{and_left, and_right, or_left, or_right}
@@ -55,13 +54,13 @@ module _ (d : List ℕ) (r : DayRows d) where
   unfolding series_class found_class
   number_of_lem c s h e = by (found_class d s) refl (eqb-true (series_class d s) c e)
     where
-      by : (f : Found) → found_class d s ≡ f → place_or (found_class d s) (class_count d) ≡ c → class_number d c ≡ series_class_number d s
-      by (At i) p q =
+      by : (f : Option ℕ) → found_class d s ≡ f → unwrap_or (found_class d s) (class_count d) ≡ c → class_number d c ≡ series_class_number d s
+      by (Some i) p q =
           let z = first_at (λ c. eqb (class_number d c) (series_class_number d s)) (class_count d) i p in
-          let w : i ≡ c = sym (ap (λ (f : Found). place_or f (class_count d)) p) ∙ q in
+          let w : i ≡ c = sym (ap (λ (f : Option ℕ). unwrap_or f (class_count d)) p) ∙ q in
           ap (class_number d) (sym w) ∙ eqb-true (class_number d i) (series_class_number d s) z.1
-      by Nothing p q =
-          let w : class_count d ≡ c = sym (ap (λ (f : Found). place_or f (class_count d)) p) ∙ q in
+      by None p q =
+          let w : class_count d ≡ c = sym (ap (λ (f : Option ℕ). unwrap_or f (class_count d)) p) ∙ q in
           absurd (omega arith)
 
   -- a future has serial 0 and strike 0
@@ -127,7 +126,7 @@ expiry_order d c s t r hc h l p q =
 
 -- the spot: no future of the class that is held has an earlier expiry
 pub spot_earliest : (d : List ℕ) (n : ℕ → ℤ) (k c s t : ℕ) → DayRows d → c < class_count d
-    → first_bad (held_future d n k c) (series_count d) ≡ At s → t < series_count d → held_future d n k c t ≡ true → expiry d s ≤ expiry d t
+    → first_bad (held_future d n k c) (series_count d) ≡ Some s → t < series_count d → held_future d n k c t ≡ true → expiry d s ≤ expiry d t
 unfolding held_future
 spot_earliest d n k c s t r hc e l q = by (dec_lt s t) (dec_lt t s)
   where

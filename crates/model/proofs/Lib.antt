@@ -25,6 +25,7 @@ pub mod Demand
 pub mod SmallReport
 pub mod Whole
 pub mod Records
+pub mod Fewest
 pub mod Together
 pub mod Verdicts
 pub mod Sizes

@@ -1,4 +1,5 @@
 -- The limits of the fields of accepted files.
+use Rattle.std.specs.Prelude.{Ok, is_some}
 use mathlib.Core.Path.{◌≡◌, sym, ap, ◌∙◌}
 use mathlib.Core.Bool.{Bool, false, not, ◌&&◌, ◌||◌, cond}
 use mathlib.Core.Logic.{◌≢◌}
@@ -9,7 +10,7 @@ use borrow.Author.Tests.{lt-ltb, le-ltb, ltb-false, leb-false, eqb-true, eqb-fal
 use lib.Dec.{leb, ltb, eqb}
 use lib.IntN.{nat_abs}
 use lib.ListN.{length}
-use Rattle.numbers.specs.Scan.{first_bad, hit, first_clear}
+use Rattle.numbers.specs.Scan.{first_bad, first_clear}
 use Rattle.numbers.specs.Lists.{nothing_hit}
 use Rattle.model.specs.Limits.{price_limit, quantity_limit, dvp_amount_limit, position_limit, most_records, group_count, whole_offset, point_count}
 use Rattle.model.specs.Words.{kind, payload, payload_limit, bits, bad_word}
@@ -19,7 +20,6 @@ use Rattle.model.specs.Batch.{batch_header, record_count, record_words, batch_wo
 use Rattle.model.specs.BatchChecks.{record_limit, dvp_out_of_range, out_of_range, row20, row21, row27, row23, batch_form}
 use Rattle.model.specs.Netting.{net, row30}
 use Rattle.numbers.specs.Tests.{or_left, or_right}
-use Rattle.model.specs.declared.Verdict.TheVariants.{Passed}
 use Rattle.model.specs.declared.Check.TheVariants.{BatchLength}
 use Rattle.model.specs.declared.BatchLengthFault.TheVariants.{BadBatchLength}
 use Rattle.model.proofs.Verdicts.{tried-passed}
@@ -43,7 +43,7 @@ module _ (d : List ℕ) (r : DayRows d) where
     unfolding bad_class
     class_word_lem =
         first_clear (bad_class_word d c) class_words
-        (nothing_hit (first_bad (bad_class_word d c) class_words) (or_left (hit (first_bad (bad_class_word d c) class_words)) (leb group_count (group d c)) class_good))
+        (nothing_hit (first_bad (bad_class_word d c) class_words) (or_left (is_some (first_bad (bad_class_word d c) class_words)) (leb group_count (group d c)) class_good))
 
     pub class_price : (i : ℕ) → i < class_words → i ≢ 0 → i ≢ 9 → payload (class_word d c i) ≤ price_limit
     unfolding bad_class_word
@@ -78,7 +78,7 @@ module _ (d : List ℕ) (r : DayRows d) where
     unfolding bad_series
     series_word_lem =
         first_clear (bad_series_word d s) series_words
-        (nothing_hit (first_bad (bad_series_word d s) series_words) (or_left (hit (first_bad (bad_series_word d s) series_words)) (eqb (multiplier d s) 0) series_good))
+        (nothing_hit (first_bad (bad_series_word d s) series_words) (or_left (is_some (first_bad (bad_series_word d s) series_words)) (eqb (multiplier d s) 0) series_good))
 
     series_price : (i : ℕ) → i < series_words → i ≢ 0 → i ≢ 1 → payload (series_word d s i) ≤ price_limit
     unfolding bad_series_word
@@ -99,7 +99,7 @@ module _ (d : List ℕ) (r : DayRows d) where
     pub multiplier_least : 1 ≤ multiplier d s
     unfolding bad_series
     multiplier_least =
-        let z = eqb-false (multiplier d s) 0 (or_right (hit (first_bad (bad_series_word d s) series_words)) (eqb (multiplier d s) 0) series_good) in
+        let z = eqb-false (multiplier d s) 0 (or_right (is_some (first_bad (bad_series_word d s) series_words)) (eqb (multiplier d s) 0) series_good) in
         omega arith
 
 row21-length : (b : List ℕ) → row21 b ≡ false → length b ≡ batch_words (record_count b)
@@ -107,7 +107,7 @@ unfolding row21
 row21-length b e = eqb-true (length b) (batch_words (record_count b)) (not-false (eqb (length b) (batch_words (record_count b))) e)
 
 -- a batch that passes the rows that need no day file has the length of its records
-pub form_length : (b : List ℕ) → batch_form b ≡ Passed → length b ≡ batch_words (record_count b)
+pub form_length : (b : List ℕ) → batch_form b ≡ Ok tt → length b ≡ batch_words (record_count b)
 unfolding batch_form
 form_length b e = row21-length b (plain_clear (BatchLength BadBatchLength) _ (tried-passed _ e).1.0)
 

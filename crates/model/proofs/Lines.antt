@@ -1,4 +1,5 @@
 -- A line depends on the positions of its group and book alone: where two families of nets and DVPs agree on these, the lines are the same.
+use Rattle.std.specs.Prelude.{Option, Some, None, is_some}
 use mathlib.Core.Path.{◌≡◌, refl, ap, ◌∙◌}
 use mathlib.Core.Bool.{Bool, true, false, ◌&&◌, ◌||◌, cond}
 use mathlib.Core.List.{List, [], ◌∷◌}
@@ -7,9 +8,7 @@ use native.Mathlib.Omega.{arith}
 use borrow.Author.Tests.{eqb-true}
 use lib.Dec.{eqb}
 use lib.IntN.{ℤ, pos, ◌+ℤ◌, ◌-ℤ◌, ◌*ℤ◌}
-use Rattle.numbers.specs.declared.Found.{Found}
-use Rattle.numbers.specs.declared.Found.TheVariants.{At, Nothing}
-use Rattle.numbers.specs.Scan.{first_bad, hit, first_at, first_ext}
+use Rattle.numbers.specs.Scan.{first_bad, first_at, first_ext}
 use Rattle.numbers.specs.Sums.{sum_to_ext, sum_where_ext}
 use Rattle.numbers.specs.Extremes.{min_z, max_z, abs_z, largest_ext}
 use Rattle.model.specs.DayFile.{class_count, series_count, series_type, series_class, series_group, group, spot_rate, non_spot_rate, offset, closing, is_future}
@@ -67,12 +66,12 @@ module _ (d : List ℕ) (n₁ v₁ n₂ v₂ : ℕ → ℤ) (k g : ℕ) (a : Agr
     unfolding Steps.held_future
     held_same s p = held_by (Steps.future_of d c s) (o₁ s) (o₂ s) (future_same s p)
 
-    size_same : (f : Found) → first_bad (Steps.held_future d n₁ k c) (series_count d) ≡ f → Steps.size_at d n₁ k f ≡ Steps.size_at d n₂ k f
+    size_same : (f : Option ℕ) → first_bad (Steps.held_future d n₁ k c) (series_count d) ≡ f → Steps.size_at d n₁ k f ≡ Steps.size_at d n₂ k f
     unfolding Steps.held_future
-    size_same (At s) h =
+    size_same (Some s) h =
         let z = first_at (Steps.held_future d n₁ k c) (series_count d) s h in
         ap abs_z (future_same s z.0 (and_left (Steps.future_of d c s) (Steps.not_zero (o₁ s)) z.1))
-    size_same Nothing h = refl
+    size_same None h = refl
 
     spot_same : Steps.spot_size d n₁ k c ≡ Steps.spot_size d n₂ k c
     unfolding Steps.spot_size
@@ -202,4 +201,4 @@ module _ (d : List ℕ) (n₁ v₁ n₂ v₂ : ℕ → ℤ) (k g : ℕ) (a : Agr
 
   pub line_same : Steps.has_line d n₁ v₁ k g ≡ Steps.has_line d n₂ v₂ k g
   unfolding Steps.has_line Steps.held_in
-  line_same = ap hit (first_ext _ _ (series_count d) (λ s p. stands_by s p (eqb (series_group d s) g) (eqb-true (series_group d s) g)))
+  line_same = ap is_some (first_ext _ _ (series_count d) (λ s p. stands_by s p (eqb (series_group d s) g) (eqb-true (series_group d s) g)))

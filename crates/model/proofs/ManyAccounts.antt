@@ -1,4 +1,5 @@
 -- U1 as the code's proofs meet it: rows 60 and 61 passed, where batches and reports stand and that they fit, and one account more.
+use Rattle.std.specs.Prelude.{Ok, Err}
 use mathlib.Core.Path.{◌≡◌, refl, ◌∙◌}
 use mathlib.Core.Bool.{not}
 use mathlib.Core.List.{List, [], ◌++◌}
@@ -12,11 +13,9 @@ use lib.ListN.{length, take, drop, get_or, length-append, length-drop}
 use lib.Seq.{length-take-le}
 use Rattle.numbers.specs.Put.{put, put-length}
 use Rattle.numbers.specs.Tests.{or_left, or_right}
-use Rattle.model.specs.declared.Answer.TheVariants.{Report, Refused}
 use Rattle.model.specs.declared.Check.{Check}
 use Rattle.model.specs.declared.Check.TheVariants.{Accounts}
 use Rattle.model.specs.declared.AccountsFault.TheVariants.{BadLengths, ShortResults}
-use Rattle.model.specs.declared.Verdict.TheVariants.{Passed, Failed}
 use Rattle.model.specs.Limits.{most_accounts}
 use Rattle.model.specs.Report.{longest_report}
 use Rattle.model.specs.Calls.{answer, memory_after}
@@ -32,7 +31,7 @@ pub record AccountsRows (bs ns : List ℕ) (entries : ℕ) : Type 0 where
   pub sum : words_before ns (length ns) ≡ length bs
   pub list : result_numbers * length ns ≤ entries
 
-pub accounts_checked : (bs ns : List ℕ) (entries : ℕ) → accounts_check bs ns entries ≡ Passed → AccountsRows bs ns entries
+pub accounts_checked : (bs ns : List ℕ) (entries : ℕ) → accounts_check bs ns entries ≡ Ok tt → AccountsRows bs ns entries
 unfolding accounts_check row60 row61
 accounts_checked bs ns entries e =
     let rows = tried-passed _ e in
@@ -130,19 +129,19 @@ module _ (d : List ℕ) (b : ℕ → List ℕ) (m : List ℕ) where
 -- ---- the outcome: refused by row 60 or 61, or past them
 
 module _ (d bs ns : List ℕ) where
-  pub all_refused : (rs m : List ℕ) (k : Check) → accounts_check bs ns (length rs) ≡ Failed k
-      → (Refused k ≡ reports_answer d bs ns (length rs) (length m)) × ((rs ≡ results_after d bs ns rs (length m)) × (m ≡ reports_after d bs ns (length rs) m))
+  pub all_refused : (rs m : List ℕ) (k : Check) → accounts_check bs ns (length rs) ≡ Err k
+      → (Err k ≡ reports_answer d bs ns (length rs) (length m)) × ((rs ≡ results_after d bs ns rs (length m)) × (m ≡ reports_after d bs ns (length rs) m))
   unfolding reports_answer results_after reports_after
   all_refused rs m k e = (rw e, (rw e, rw e))
 
-  pub answer_past : (entries room : ℕ) → accounts_check bs ns entries ≡ Passed → reports_answer d bs ns entries room ≡ Report (report_start d (batch_of bs ns) room (length ns))
+  pub answer_past : (entries room : ℕ) → accounts_check bs ns entries ≡ Ok tt → reports_answer d bs ns entries room ≡ Ok (report_start d (batch_of bs ns) room (length ns))
   unfolding reports_answer
   answer_past entries room e = rw e
 
-  pub results_past : (rs : List ℕ) (room : ℕ) → accounts_check bs ns (length rs) ≡ Passed → results_after d bs ns rs room ≡ results_to d (batch_of bs ns) room rs (length ns)
+  pub results_past : (rs : List ℕ) (room : ℕ) → accounts_check bs ns (length rs) ≡ Ok tt → results_after d bs ns rs room ≡ results_to d (batch_of bs ns) room rs (length ns)
   unfolding results_after
   results_past rs room e = rw e
 
-  pub memory_past : (entries : ℕ) (m : List ℕ) → accounts_check bs ns entries ≡ Passed → reports_after d bs ns entries m ≡ memory_to d (batch_of bs ns) m (length ns)
+  pub memory_past : (entries : ℕ) (m : List ℕ) → accounts_check bs ns entries ≡ Ok tt → reports_after d bs ns entries m ≡ memory_to d (batch_of bs ns) m (length ns)
   unfolding reports_after
   memory_past entries m e = rw e

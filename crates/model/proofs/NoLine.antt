@@ -1,4 +1,5 @@
 -- A group without a line in a book has six zero amounts there: dropping the line loses nothing.
+use Rattle.std.specs.Prelude.{Option, Some, None}
 use mathlib.Core.Path.{◌≡◌, refl, ap, ◌∙◌}
 use mathlib.Core.Bool.{false, ◌&&◌, ◌||◌}
 use mathlib.Core.List.{List, [], ◌∷◌}
@@ -7,8 +8,6 @@ use native.Mathlib.Omega.{arith}
 use borrow.Author.Tests.{ltb-false, eq-eqb}
 use lib.Dec.{eqb}
 use lib.IntN.{ℤ, pos, negsuc, ◌+ℤ◌, ◌-ℤ◌, ◌*ℤ◌, zero-*ℤ}
-use Rattle.numbers.specs.declared.Found.{Found}
-use Rattle.numbers.specs.declared.Found.TheVariants.{At, Nothing}
 use Rattle.numbers.specs.Abs.{cond_ind}
 use Rattle.numbers.specs.Scan.{first_bad, first_clear}
 use Rattle.numbers.specs.Lists.{nothing_hit}
@@ -52,9 +51,9 @@ module _ (d : List ℕ) (k : ℕ) where
   unfolding Steps.total_short Steps.total_long Steps.short_before Steps.long_before
   no_quantity c = λ i. min_z (no_long c (series_count d) i) (no_short c (series_count d) i)
 
-  no_size_at : (f : Found) → Steps.size_at d empty k f ≡ pos 0
-  no_size_at (At s) = refl
-  no_size_at Nothing = refl
+  no_size_at : (f : Option ℕ) → Steps.size_at d empty k f ≡ pos 0
+  no_size_at (Some s) = refl
+  no_size_at None = refl
 
   no_spread : (c : ℕ) → Steps.spread d empty k c ≡ pos 0
   unfolding Steps.spread Steps.non_spot_spread Steps.spot_spread Steps.spot_size

@@ -1,4 +1,5 @@
 -- The value of every answer, a length or a place, is below 2 ^ 32.
+use Rattle.std.specs.Prelude.{Option, Some, None, Ok, Err}
 use mathlib.Core.Path.{◌≡◌, refl}
 use mathlib.Core.Bool.{Bool, true, false, cond}
 use mathlib.Core.List.{List, [], ◌∷◌}
@@ -6,10 +7,8 @@ use Prim.Native.Nat.{ℕ, ◌+◌, ◌/◌, ◌^◌, ◌<◌}
 use native.Mathlib.Omega.{arith}
 use lib.Dec.{leb}
 use lib.ListN.{length}
-use Rattle.numbers.specs.declared.Found.{Found}
-use Rattle.numbers.specs.declared.Found.TheVariants.{At, Nothing}
 use Rattle.numbers.specs.Scan.{first_bad, first_at, first-before}
-use Rattle.model.specs.declared.Answer.{Answer}
+use Rattle.model.specs.Outcomes.{Answer}
 use Rattle.model.specs.declared.Check.{Check}
 use Rattle.model.specs.declared.Check.TheVariants.{Bytes, DayHeader, DayLength, DayWords, Classes, Series, BatchHeader, BatchLength, BatchWords, Positions, Netting, Accounts}
 use Rattle.model.specs.declared.BytesFault.TheVariants.{DayFile, BatchFile}
@@ -26,8 +25,7 @@ use Rattle.model.specs.declared.PositionFault.TheVariants.{SeriesAbsent, Exercis
 use Rattle.model.specs.declared.NettingFault.TheVariants.{NetTooLarge, BadDeposit, UnlikeMultipliers}
 use Rattle.model.specs.declared.ReportFault.TheVariants.{TooShort}
 use Rattle.model.specs.declared.AccountsFault.TheVariants.{BadLengths, ShortResults}
-use Rattle.model.specs.declared.Verdict.{Verdict}
-use Rattle.model.specs.declared.Verdict.TheVariants.{Passed, Failed}
+use Rattle.model.specs.Outcomes.{Verdict}
 use Rattle.model.specs.Answers.{place_of, value_of}
 use Rattle.model.specs.Rows.{tried, plain_row, found_row, record_row}
 use Rattle.model.specs.DayFile.{class_count, series_count}
@@ -47,8 +45,8 @@ use Rattle.model.proofs.ManyAccounts.{accounts_checked, start_most}
 use Rattle.model.proofs.Verdicts.{Each, ◌then◌, tried-each}
 
 abbrev place_in : Verdict → ℕ
-place_in Passed = 0
-place_in (Failed k) = place_of k
+place_in (Ok _) = 0
+place_in (Err k) = place_of k
 
 record Low (v : Verdict) : Type 0 where
   low : place_in v < 2 ^ 32
@@ -63,9 +61,9 @@ plain_low k false e = record { low = omega arith }
 record_low : (k : ℕ → Check) (t : ℕ → Bool) (n : ℕ) → ((i : ℕ) → place_of (k i) ≡ i) → n < 2 ^ 32 → Low (record_row k t n)
 record_low k t n e h = by (first_bad t n) refl
   where
-    by : (f : Found) → first_bad t n ≡ f → Low (found_row k f)
-    by (At i) q = record { low = omega (arith, e i, (first_at t n i q).0) }
-    by Nothing q = record { low = omega arith }
+    by : (f : Option ℕ) → first_bad t n ≡ f → Low (found_row k f)
+    by (Some i) q = record { low = omega (arith, e i, (first_at t n i q).0) }
+    by None q = record { low = omega arith }
 
 day_low : (d : List ℕ) → Low (day_check d)
 unfolding day_check record_check class_check series_check
@@ -111,15 +109,15 @@ batch_low d b =
 fifty_low : (d x : List ℕ) → Low (record_row (Netting BadDeposit) (row50 d x) (deposit_count x))
 fifty_low d x = by (first_bad (row50 d x) (deposit_count x)) refl
   where
-    by : (f : Found) → first_bad (row50 d x) (deposit_count x) ≡ f → Low (found_row (Netting BadDeposit) f)
-    by (At i) q = record { low = omega (arith, few_passed d x i (first-before (row50 d x) (deposit_count x) i q)) }
-    by Nothing q = record { low = omega arith }
+    by : (f : Option ℕ) → first_bad (row50 d x) (deposit_count x) ≡ f → Low (found_row (Netting BadDeposit) f)
+    by (Some i) q = record { low = omega (arith, few_passed d x i (first-before (row50 d x) (deposit_count x) i q)) }
+    by None q = record { low = omega arith }
 
 -- the rows behind one count only where it passes
-low_next : (v : Verdict) (l : List Verdict) → Low v → (v ≡ Passed → Low (tried l)) → Low (tried (v ∷ l))
+low_next : (v : Verdict) (l : List Verdict) → Low v → (v ≡ Ok tt → Low (tried l)) → Low (tried (v ∷ l))
 unfolding tried
-low_next Passed l p q = q refl
-low_next (Failed k) l p q = p
+low_next (Ok _) l p q = q refl
+low_next (Err k) l p q = p
 
 deposit_low : (d x : List ℕ) → Low (deposit_check d x)
 unfolding deposit_check
@@ -141,13 +139,13 @@ verdict_low d b x =
 room_low : (n room : ℕ) → n < 2 ^ 32 → value_of (room_answer n room) < 2 ^ 32
 room_low n room h = by (leb n room)
   where
-    by : (t : Bool) → value_of (cond t (Answer.Report n) (Answer.Refused (Check.Report TooShort n))) < 2 ^ 32
+    by : (t : Bool) → value_of (cond t (Ok n) (Err (Check.Report TooShort n))) < 2 ^ 32
     by true = h
     by false = h
 
-answer_low : (v : Verdict) (a : Answer) → Low v → (v ≡ Passed → value_of a < 2 ^ 32) → value_of (answer_of v a) < 2 ^ 32
-answer_low Passed a p q = q refl
-answer_low (Failed k) a p q = p.low
+answer_low : (v : Verdict) (a : Answer) → Low v → (v ≡ Ok tt → value_of a < 2 ^ 32) → value_of (answer_of v a) < 2 ^ 32
+answer_low (Ok _) a p q = q refl
+answer_low (Err k) a p q = p.low
 
 pub value_small : (d b x : List ℕ) (room : ℕ) → value_of (answer d b x room) < 2 ^ 32
 unfolding answer
@@ -166,5 +164,5 @@ accounts_low bs ns entries = all_low _ (plain_low (Accounts BadLengths) (row60 b
 pub reports_value_small : (d bs ns : List ℕ) (entries room : ℕ) → value_of (reports_answer d bs ns entries room) < 2 ^ 32
 unfolding reports_answer
 reports_value_small d bs ns entries room =
-    answer_low (accounts_check bs ns entries) (Answer.Report (report_start d (batch_of bs ns) room (length ns))) (accounts_low bs ns entries)
+    answer_low (accounts_check bs ns entries) (Ok (report_start d (batch_of bs ns) room (length ns))) (accounts_low bs ns entries)
     (λ e. omega (arith, start_most d (batch_of bs ns) room (length ns), (accounts_checked bs ns entries e).few))

@@ -1,4 +1,5 @@
 -- How many records stand behind each position, and what they bound: the budget that keeps every amount within an i64.
+use Rattle.std.specs.Prelude.{Option, Some, None}
 use mathlib.Core.Path.{◌≡◌, refl}
 use mathlib.Core.Bool.{true, cond}
 use mathlib.Core.List.{List}
@@ -8,9 +9,7 @@ use native.Mathlib.Omega.{arith}
 use borrow.Author.Tests.{eqb-true}
 use lib.Dec.{eqb}
 use lib.IntN.{ℤ, pos, nat_abs, ◌-ℤ◌}
-use Rattle.numbers.specs.declared.Found.{Found}
 use Rattle.model.specs.Limits.{position_limit, dvp_amount_limit, most_records}
-use Rattle.numbers.specs.declared.Found.TheVariants.{At, Nothing}
 use Rattle.numbers.specs.Scan.{first_bad, first_at, first_clear}
 use Rattle.numbers.specs.Sums.{sum_where-none}
 use Rattle.numbers.specs.Budget.{sum_n, sum_n_where, sum_n-ones, sum_n_at, bound_where, parts_le}
@@ -38,16 +37,16 @@ module _ (d b : List ℕ) (days : DayRows d) (recs : BatchRows d b) where
   unfolding net
   net_bound k x s hs hx = by (first_bad (λ r. eqb (key b r) (position k x s)) (record_count b)) refl
     where
-      by : (f : Found) → first_bad (λ r. eqb (key b r) (position k x s)) (record_count b) ≡ f
+      by : (f : Option ℕ) → first_bad (λ r. eqb (key b r) (position k x s)) (record_count b) ≡ f
           → nat_abs (net b (position k x s)) * multiplier d s ≤ position_limit * count (position k x s)
-      by (At r) e =
+      by (Some r) e =
           let z = first_at (λ r. eqb (key b r) (position k x s)) (record_count b) r e in
           let q : key b r ≡ position k x s = eqb-true (key b r) (position k x s) z.1 in
           let p : place b r ≡ s = key-place _ k x s (omega (arith, few_series d days)) hx q in
           let l : nat_abs (net b (position k x s)) * multiplier d s ≤ position_limit = rw (q, p) at (net_limit_lem d b recs r z.0) in
           let one : ◌≡◌ {A = ℕ} (cond (eqb (key b r) (position k x s)) 1 0) 1 = rw z.1 in
           omega (arith, sum_n_at (record_count b) (λ r. cond (eqb (key b r) (position k x s)) 1 0) r z.0)
-      by Nothing e =
+      by None e =
           let z : net b (position k x s) ≡ pos 0 =
           sum_where-none (record_count b) (λ r. eqb (key b r) (position k x s)) (λ r. pos (short b r) -ℤ pos (long b r))
           (first_clear (λ r. eqb (key b r) (position k x s)) (record_count b) e)

@@ -1,4 +1,5 @@
 -- In an accepted day file the series stand by class: class numbers rise, every series has its class, and a later series has no earlier class.
+use Rattle.std.specs.Prelude.{Option, Some, None, is_some, unwrap_or}
 use mathlib.Core.Path.{◌≡◌, refl, sym, ap, ◌∙◌}
 use mathlib.Core.Bool.{true, false, ◌&&◌, true≢false}
 use mathlib.Core.List.{List}
@@ -8,10 +9,8 @@ use native.Mathlib.Nat.{le_of_eq}
 use native.Mathlib.Omega.{arith}
 use borrow.Author.Tests.{eqb-true, eq-eqb, ne_eqb, leb-false, le-leb, lt-leb, lt-ltb, not-false}
 use lib.Dec.{leb, ltb, eqb}
-use Rattle.numbers.specs.declared.Found.{Found}
-use Rattle.numbers.specs.declared.Found.TheVariants.{At, Nothing}
-use Rattle.numbers.specs.Scan.{hit, first_at, first-hit, first-none}
-use Rattle.model.specs.DayFile.{class_count, class_number, series_count, series_key, series_class_number, found_class, place_or, class_place, series_class}
+use Rattle.numbers.specs.Scan.{first_at, first-hit, first-none}
+use Rattle.model.specs.DayFile.{class_count, class_number, series_count, series_key, series_class_number, found_class, class_place, series_class}
 use Rattle.model.specs.DayChecks.{row13, row15}
 use Rattle.model.proofs.Accepted.{DayRows}
 use Rattle.model.proofs.Expiry.{rank_order}
@@ -32,13 +31,13 @@ module _ (d : List ℕ) (r : DayRows d) where
   -- the class of a series, and its number
   found : (s : ℕ) → s < series_count d → (series_class d s < class_count d) × (class_number d (series_class d s) ≡ series_class_number d s)
   unfolding row15 series_class found_class
-  found s h = by (found_class d s) refl (not-false (hit (found_class d s)) (r.at15 s h))
+  found s h = by (found_class d s) refl (not-false (is_some (found_class d s)) (r.at15 s h))
     where
-      by : (f : Found) → found_class d s ≡ f → hit f ≡ true → (place_or f (class_count d) < class_count d) × (class_number d (place_or f (class_count d)) ≡ series_class_number d s)
-      by (At i) p q =
+      by : (f : Option ℕ) → found_class d s ≡ f → is_some f ≡ true → (unwrap_or f (class_count d) < class_count d) × (class_number d (unwrap_or f (class_count d)) ≡ series_class_number d s)
+      by (Some i) p q =
           let z = first_at (λ c. eqb (class_number d c) (series_class_number d s)) (class_count d) i p in
           (z.0, eqb-true (class_number d i) (series_class_number d s) z.1)
-      by Nothing p q = absurd (true≢false (sym q))
+      by None p q = absurd (true≢false (sym q))
 
   pub class_below : (s : ℕ) → s < series_count d → series_class d s < class_count d
   class_below s h = (found s h).0
@@ -82,7 +81,7 @@ module _ (d : List ℕ) (r : DayRows d) where
   pub class_place_lem : (c : ℕ) → c < class_count d → class_place d (class_number d c) ≡ c
   unfolding class_place
   class_place_lem c h =
-      ap (λ (f : Found). place_or f (class_count d))
+      ap (λ (f : Option ℕ). unwrap_or f (class_count d))
       (first-hit (λ e. eqb (class_number d e) (class_number d c)) c (class_count d)
       (first-none (λ e. eqb (class_number d e) (class_number d c)) c
       (λ e l. ne_eqb (class_number d e) (class_number d c) (λ q. omega (arith, number_order e c l h))))

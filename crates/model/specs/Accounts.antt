@@ -1,6 +1,6 @@
 -- Files written from their fields, and figures computed from them: what the worked examples are made of. Amounts are in ten-thousandths of a euro.
-use Rattle.std.specs.Prelude.{List, [], ◌∷◌, ◌++◌, map, ℕ, ◌+◌, ◌*◌, ◌^◌, ℤ, pos, neg_ℤ, replicate}
-use Rattle.model.specs.declared.Answer.{Answer}
+use Rattle.std.specs.Prelude.{List, [], ◌∷◌, ◌++◌, map, ℕ, ◌+◌, ◌*◌, ◌^◌, ℤ, pos, neg_ℤ, replicate, Ok}
+use Rattle.model.specs.Outcomes.{Answer}
 use Rattle.model.specs.Words.{word, amount_words}
 use Rattle.model.specs.Answers.{status_of, value_of}
 use Rattle.model.specs.Netting.{net, dvp}
@@ -89,4 +89,4 @@ module _ (d b : List ℕ) where
 
   -- the first of them alone, by the rows that need no memory: 0 where the account is accepted
   abbrev pub status : ℤ
-  status = pos (status_of (answer_of (verdict d b []) (Answer.Report 0)))
+  status = pos (status_of (answer_of (verdict d b []) (Ok 0)))

@@ -1,7 +1,6 @@
 -- The number and the place of a refusal, and the two numbers that an answer is: 0 and the words written, or the refusal's number and place.
-use Rattle.std.specs.Prelude.{ℕ, ◌+◌, ◌*◌, ◌^◌}
-use Rattle.model.specs.declared.Answer.{Answer}
-use Rattle.model.specs.declared.Answer.TheVariants.{Refused}
+use Rattle.std.specs.Prelude.{ℕ, ◌+◌, ◌*◌, ◌^◌, Ok, Err}
+use Rattle.model.specs.Outcomes.{Answer}
 use Rattle.model.specs.declared.Check.{Check}
 use Rattle.model.specs.declared.Check.TheVariants.{Bytes, DayHeader, DayLength, DayWords, Classes, Series, BatchHeader, BatchLength, BatchWords, Positions, Netting, Accounts}
 use Rattle.model.specs.declared.BytesFault.TheVariants.{DayFile, BatchFile}
@@ -55,12 +54,12 @@ place_of (Check.Report f p) = p
 place_of (Accounts f p) = p
 
 abbrev pub status_of : Answer → ℕ
-status_of (Answer.Report n) = 0
-status_of (Refused k) = number_of k
+status_of (Ok n) = 0
+status_of (Err k) = number_of k
 
 abbrev pub value_of : Answer → ℕ
-value_of (Answer.Report n) = n
-value_of (Refused k) = place_of k
+value_of (Ok n) = n
+value_of (Err k) = place_of k
 
 -- both in one number, as a C entry returns an answer
 abbrev pub packed : Answer → ℕ

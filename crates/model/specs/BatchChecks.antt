@@ -6,7 +6,7 @@ use Rattle.model.specs.declared.BatchLengthFault.TheVariants.{BadBatchLength}
 use Rattle.model.specs.declared.BatchWordsFault.{BatchWordsFault}
 use Rattle.model.specs.declared.BatchWordsFault.TheVariants.{WrongKind, OutOfRange, MinusZero}
 use Rattle.model.specs.declared.PositionFault.TheVariants.{SeriesAbsent, ExercisedNonOption, FailNonSecurity, DvpNonSecurity}
-use Rattle.model.specs.declared.Verdict.{Verdict}
+use Rattle.model.specs.Outcomes.{Verdict}
 use Rattle.model.specs.Limits.{quantity_limit, dvp_amount_limit, most_records}
 use Rattle.model.specs.Words.{kind, payload, payload_limit, bits, negative}
 use Rattle.model.specs.Rows.{tried, plain_row, record_row}

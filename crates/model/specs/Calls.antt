@@ -1,11 +1,9 @@
 -- The call over words: its answer and the report memory afterwards, for every day file d, batch b, list of deposits x and memory m.
-use Rattle.std.specs.Prelude.{◌≡◌, cond, List, [], ◌∷◌, ◌++◌, ℕ, leb, ℤ, length, drop}
-use Rattle.model.specs.declared.Answer.{Answer}
-use Rattle.model.specs.declared.Answer.TheVariants.{Report, Refused}
+use Rattle.std.specs.Prelude.{◌≡◌, cond, List, [], ◌∷◌, ◌++◌, ℕ, leb, ℤ, length, drop, Ok, Err}
+use Rattle.model.specs.Outcomes.{Answer}
 use Rattle.model.specs.declared.Check.{Check}
 use Rattle.model.specs.declared.ReportFault.TheVariants.{TooShort}
-use Rattle.model.specs.declared.Verdict.{Verdict}
-use Rattle.model.specs.declared.Verdict.TheVariants.{Passed, Failed}
+use Rattle.model.specs.Outcomes.{Verdict}
 use Rattle.model.specs.Rows.{tried}
 use Rattle.model.specs.DayChecks.{day_check}
 use Rattle.model.specs.BatchChecks.{batch_check}
@@ -19,7 +17,7 @@ unfoldable pub verdict : List ℕ → List ℕ → List ℕ → Verdict
 verdict d b x = tried (day_check d ∷ batch_check d b ∷ netting_check d b ∷ deposit_check d x ∷ [])
 
 abbrev pub Accepted : List ℕ → List ℕ → List ℕ → Type 0
-Accepted d b x = verdict d b x ≡ Passed
+Accepted d b x = verdict d b x ≡ Ok tt
 
 -- the nets that the amounts are of: after cover (U5)
 abbrev pub net_after : List ℕ → List ℕ → List ℕ → ℕ → ℤ
@@ -34,11 +32,11 @@ needed d b = words_needed d (net b) (dvp b)
 
 -- row 40, or the length
 abbrev pub room_answer : ℕ → ℕ → Answer
-room_answer n room = cond (leb n room) (Report n) (Refused (Check.Report TooShort n))
+room_answer n room = cond (leb n room) (Ok n) (Err (Check.Report TooShort n))
 
 abbrev pub answer_of : Verdict → Answer → Answer
-answer_of Passed a = a
-answer_of (Failed k) a = Refused k
+answer_of (Ok _) a = a
+answer_of (Err k) a = Err k
 
 -- the answer of a call that tries the rows v and then has n words to write, where the memory has this many
 abbrev pub outcome : Verdict → ℕ → ℕ → Answer
@@ -49,8 +47,8 @@ answer d b x room = outcome (verdict d b x) (needed d b) room
 
 -- what an answer leaves: the words over the front of the memory; of a refusal nothing
 abbrev pub written : Answer → List ℕ → List ℕ → List ℕ
-written (Report n) w m = w ++ drop n m
-written (Refused k) w m = m
+written (Ok n) w m = w ++ drop n m
+written (Err k) w m = m
 
 unfoldable pub memory_after : List ℕ → List ℕ → List ℕ → List ℕ → List ℕ
 memory_after d b x m = written (answer d b x (length m)) (report d b x) m

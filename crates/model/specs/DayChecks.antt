@@ -1,13 +1,13 @@
 -- The checks of a day file: rows 10 to 17, and the first that refuses. d is the list of its words, c a class, s a series.
-use Rattle.std.specs.Prelude.{Bool, not, ◌&&◌, ◌||◌, cond, List, [], ◌∷◌, ℕ, ◌+◌, ◌-◌, leb, ltb, eqb, length}
-use Rattle.numbers.specs.Scan.{hit, any_below}
+use Rattle.std.specs.Prelude.{Bool, not, ◌&&◌, ◌||◌, cond, List, [], ◌∷◌, ℕ, ◌+◌, ◌-◌, leb, ltb, eqb, length, is_some}
+use Rattle.numbers.specs.Scan.{any_below}
 use Rattle.model.specs.declared.Check.TheVariants.{DayHeader, DayLength, DayWords, Classes, Series}
 use Rattle.model.specs.declared.DayHeaderFault.TheVariants.{BadDayHeader}
 use Rattle.model.specs.declared.DayLengthFault.TheVariants.{BadDayLength}
 use Rattle.model.specs.declared.DayWordsFault.TheVariants.{BadDayWord}
 use Rattle.model.specs.declared.ClassFault.TheVariants.{ClassOrder, OffsetDiffers}
 use Rattle.model.specs.declared.SeriesFault.TheVariants.{ClassAbsent, SeriesOrder, BadType}
-use Rattle.model.specs.declared.Verdict.{Verdict}
+use Rattle.model.specs.Outcomes.{Verdict}
 use Rattle.model.specs.Limits.{most_classes, most_series, group_count, multiplier_limit, whole_offset}
 use Rattle.model.specs.Words.{kind, payload, payload_limit, bits, bad_word, bad_price}
 use Rattle.model.specs.Rows.{tried, plain_row, record_row}
@@ -58,7 +58,7 @@ row14 d c = any_below c (offsets_differ d c)
 
 -- class number absent
 unfoldable pub row15 : List ℕ → ℕ → Bool
-row15 d s = not (hit (found_class d s))
+row15 d s = not (is_some (found_class d s))
 
 -- key payload, then strike, not above the record before
 unfoldable pub row16 : List ℕ → ℕ → Bool

@@ -1,7 +1,5 @@
 -- The day file: its fields by class c, series s and point k (0 to 9 for D5 .. D1, U1 .. U5). d is the list of its words.
-use Rattle.std.specs.Prelude.{Bool, ◌||◌, List, ℕ, ◌+◌, ◌*◌, eqb, get_or}
-use Rattle.numbers.specs.declared.Found.{Found}
-use Rattle.numbers.specs.declared.Found.TheVariants.{At, Nothing}
+use Rattle.std.specs.Prelude.{Bool, ◌||◌, List, ℕ, ◌+◌, ◌*◌, eqb, get_or, Option, unwrap_or}
 use Rattle.numbers.specs.Scan.{first_where}
 use Rattle.model.specs.Words.{payload, bits}
 
@@ -148,22 +146,18 @@ is_derivative t = is_future t || is_option t
 -- ---- a class by its number
 
 -- the class with number n, and its place (the number of classes where there is none)
-abbrev pub class_with : List ℕ → ℕ → Found
+abbrev pub class_with : List ℕ → ℕ → Option ℕ
 class_with d n = first_where (λ c. eqb (class_number d c) n) (class_count d)
 
-abbrev pub place_or : Found → ℕ → ℕ
-place_or (At c) n = c
-place_or Nothing n = n
-
 unfoldable pub class_place : List ℕ → ℕ → ℕ
-class_place d n = place_or (class_with d n) (class_count d)
+class_place d n = unwrap_or (class_with d n) (class_count d)
 
 -- the class of a series: the one with the series' class number
-unfoldable pub found_class : List ℕ → ℕ → Found
+unfoldable pub found_class : List ℕ → ℕ → Option ℕ
 found_class d s = class_with d (series_class_number d s)
 
 unfoldable pub series_class : List ℕ → ℕ → ℕ
-series_class d s = place_or (found_class d s) (class_count d)
+series_class d s = unwrap_or (found_class d s) (class_count d)
 
 unfoldable pub series_group : List ℕ → ℕ → ℕ
 series_group d s = group d (series_class d s)

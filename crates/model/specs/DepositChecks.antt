@@ -1,9 +1,9 @@
 -- U5, the checks of the deposits: rows 50 and 51, between 30 and 40. x is the list of their words, d the day file's, i a deposit. Words in quotes are the request's.
-use Rattle.std.specs.Prelude.{Bool, not, ◌&&◌, ◌||◌, List, [], ◌∷◌, ℕ, ◌%◌, ltb, eqb, length}
-use Rattle.numbers.specs.Scan.{hit, any_below}
+use Rattle.std.specs.Prelude.{Bool, not, ◌&&◌, ◌||◌, List, [], ◌∷◌, ℕ, ◌%◌, ltb, eqb, length, is_some}
+use Rattle.numbers.specs.Scan.{any_below}
 use Rattle.model.specs.declared.Check.TheVariants.{Netting}
 use Rattle.model.specs.declared.NettingFault.TheVariants.{BadDeposit, UnlikeMultipliers}
-use Rattle.model.specs.declared.Verdict.{Verdict}
+use Rattle.model.specs.Outcomes.{Verdict}
 use Rattle.model.specs.Limits.{shares_limit}
 use Rattle.model.specs.Rows.{tried, plain_row, record_row}
 use Rattle.model.specs.DayFile.{series_count, multiplier, class_with, class_place}
@@ -17,7 +17,7 @@ odd_words x = ltb 0 (length x % deposit_words)
 -- "a class that is unknown or was named by an earlier deposit, or more shares than the limit"
 unfoldable pub row50 : List ℕ → List ℕ → ℕ → Bool
 row50 d x i =
-    not (hit (class_with d (named_number x i)))
+    not (is_some (class_with d (named_number x i)))
     || any_below i (λ j. eqb (named_number x j) (named_number x i))
     || ltb shares_limit (shares x i)
 

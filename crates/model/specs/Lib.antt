@@ -1,4 +1,5 @@
 pub mod Limits
+pub mod Outcomes
 pub mod Words
 pub mod Answers
 pub mod Rows

@@ -1,12 +1,10 @@
 -- U1, all accounts of a broker in one call: its answer, the result list and the report memory afterwards, for every day file d, run of batches bs, list of their lengths ns, result list rs and report memory m. Words in quotes are the request's.
-use Rattle.std.specs.Prelude.{Bool, not, ◌||◌, List, [], ◌∷◌, ◌++◌, ℕ, zero, suc, ◌+◌, ◌-◌, ◌*◌, eqb, ltb, length, take, drop, get_or}
+use Rattle.std.specs.Prelude.{Bool, not, ◌||◌, List, [], ◌∷◌, ◌++◌, ℕ, zero, suc, ◌+◌, ◌-◌, ◌*◌, eqb, ltb, length, take, drop, get_or, Ok, Err}
 use Rattle.numbers.specs.Put.{put}
-use Rattle.model.specs.declared.Answer.{Answer}
-use Rattle.model.specs.declared.Answer.TheVariants.{Report, Refused}
+use Rattle.model.specs.Outcomes.{Answer}
 use Rattle.model.specs.declared.AccountsFault.TheVariants.{BadLengths, ShortResults}
 use Rattle.model.specs.declared.Check.TheVariants.{Accounts}
-use Rattle.model.specs.declared.Verdict.{Verdict}
-use Rattle.model.specs.declared.Verdict.TheVariants.{Passed, Failed}
+use Rattle.model.specs.Outcomes.{Verdict}
 use Rattle.model.specs.Limits.{most_accounts}
 use Rattle.model.specs.Answers.{status_of, value_of}
 use Rattle.model.specs.Rows.{tried, plain_row}
@@ -45,8 +43,8 @@ accounts_check bs ns entries = tried (plain_row (Accounts BadLengths) (row60 bs 
 
 -- the words that an answer wrote: "a refused account .. writes no report words"
 abbrev pub words_in : Answer → ℕ
-words_in (Report n) = n
-words_in (Refused k) = 0
+words_in (Ok n) = n
+words_in (Err k) = 0
 
 -- its two numbers in the result list: "its number and place", or "0 and its report's length"
 abbrev pub pair_of : Answer → List ℕ
@@ -79,13 +77,13 @@ module _ (d : List ℕ) (b : ℕ → List ℕ) (m : List ℕ) where
 
 -- what a call leaves of a list where its rows say v: all accounts done, or as it was
 abbrev pub left_by : Verdict → List ℕ → List ℕ → List ℕ
-left_by Passed done l = done
-left_by (Failed k) done l = l
+left_by (Ok _) done l = done
+left_by (Err k) done l = l
 
 module _ (d bs ns : List ℕ) where
   -- "the call returns the words written in all"
   unfoldable pub reports_answer : ℕ → ℕ → Answer
-  reports_answer entries room = answer_of (accounts_check bs ns entries) (Report (report_start d (batch_of bs ns) room (length ns)))
+  reports_answer entries room = answer_of (accounts_check bs ns entries) (Ok (report_start d (batch_of bs ns) room (length ns)))
 
   unfoldable pub results_after : List ℕ → ℕ → List ℕ
   results_after rs room = left_by (accounts_check bs ns (length rs)) (results_to d (batch_of bs ns) room rs (length ns)) rs

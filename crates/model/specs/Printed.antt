@@ -1,10 +1,9 @@
 -- The text that the report program prints, as bytes: of a report from its words w, and of a refusal.
-use Rattle.std.specs.Prelude.{Bool, not, ◌||◌, cond, List, [], ◌∷◌, ◌++◌, ℕ, zero, suc, ◌+◌, ◌*◌, ◌/◌, ◌%◌, ltb, eqb, ℤ, pos, negsuc, get_or, replicate}
-use Rattle.model.specs.declared.Answer.{Answer}
-use Rattle.model.specs.declared.Answer.TheVariants.{Report, Refused}
+use Rattle.std.specs.Prelude.{Bool, not, ◌||◌, cond, List, [], ◌∷◌, ◌++◌, ℕ, zero, suc, ◌+◌, ◌*◌, ◌/◌, ◌%◌, ltb, eqb, ℤ, pos, negsuc, get_or, replicate, Ok, Err}
+use Rattle.model.specs.Outcomes.{Answer}
 use Rattle.model.specs.declared.Check.TheVariants.{Bytes}
 use Rattle.model.specs.declared.BytesFault.TheVariants.{DayFile, BatchFile}
-use Rattle.model.specs.declared.Verdict.{Verdict}
+use Rattle.model.specs.Outcomes.{Verdict}
 use Rattle.model.specs.Words.{payload, bits}
 use Rattle.model.specs.Answers.{number_of, place_of}
 use Rattle.model.specs.Rows.{tried, plain_row}
@@ -83,8 +82,8 @@ unfoldable pub refusal_text : ℕ → ℕ → List ℕ
 refusal_text number place = refused_head ++ number_field number ++ number_field place ++ 10 ∷ []
 
 abbrev pub printed : Answer → List ℕ → List ℕ
-printed (Report n) w = report_text w
-printed (Refused k) w = refusal_text (number_of k) (place_of k)
+printed (Ok n) w = report_text w
+printed (Err k) w = refusal_text (number_of k) (place_of k)
 
 -- ---- the program: its two files, each opened or not, with the bytes read; its memory holds the longest report
 

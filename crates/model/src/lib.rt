@@ -1,19 +1,6 @@
-// The answers of the margin report. What each means, with its number, is in specs/Answers.antt.
+// The checks that refuse, and what a printed text says. A call answers the words written, or the check that refused; a run of checks only
+// whether one refuses. A fault has the paper's number; specs/Answers.antt says which check has which.
 #![tactic(auto)]
-
-// The answer of a call: the words written, or the check that refused.
-#[derive(Clone, Copy)]
-pub enum Answer {
-    Report(usize),
-    Refused(Check),
-}
-
-// What a run of checks says: all hold, or the first that does not.
-#[derive(Clone, Copy)]
-pub enum Verdict {
-    Passed,
-    Failed(Check),
-}
 
 // The stages of check, one variant each: its reason, and the place (the first offending record or word, or what the row says).
 #[derive(Clone, Copy)]
@@ -36,99 +23,98 @@ pub enum Check {
 // Rows 1 and 2.
 #[derive(Clone, Copy)]
 pub enum BytesFault {
-    DayFile,
-    BatchFile,
+    DayFile = 1,
+    BatchFile = 2,
 }
 
 // Row 10.
 #[derive(Clone, Copy)]
 pub enum DayHeaderFault {
-    BadDayHeader,
+    BadDayHeader = 10,
 }
 
 // Row 11.
 #[derive(Clone, Copy)]
 pub enum DayLengthFault {
-    BadDayLength,
+    BadDayLength = 11,
 }
 
 // Row 12.
 #[derive(Clone, Copy)]
 pub enum DayWordsFault {
-    BadDayWord,
+    BadDayWord = 12,
 }
 
 // Rows 13 and 14.
 #[derive(Clone, Copy)]
 pub enum ClassFault {
-    ClassOrder,
-    OffsetDiffers,
+    ClassOrder = 13,
+    OffsetDiffers = 14,
 }
 
 // Rows 15, 16 and 17.
 #[derive(Clone, Copy)]
 pub enum SeriesFault {
-    ClassAbsent,
-    SeriesOrder,
-    BadType,
+    ClassAbsent = 15,
+    SeriesOrder = 16,
+    BadType = 17,
 }
 
 // Row 20.
 #[derive(Clone, Copy)]
 pub enum BatchHeaderFault {
-    BadBatchHeader,
+    BadBatchHeader = 20,
 }
 
 // Row 21.
 #[derive(Clone, Copy)]
 pub enum BatchLengthFault {
-    BadBatchLength,
+    BadBatchLength = 21,
 }
 
 // Rows 22, 27 and 28.
 #[derive(Clone, Copy)]
 pub enum BatchWordsFault {
-    WrongKind,
-    OutOfRange,
-    MinusZero,
+    WrongKind = 22,
+    OutOfRange = 27,
+    MinusZero = 28,
 }
 
 // Rows 23 to 26.
 #[derive(Clone, Copy)]
 pub enum PositionFault {
-    SeriesAbsent,
-    ExercisedNonOption,
-    FailNonSecurity,
-    DvpNonSecurity,
+    SeriesAbsent = 23,
+    ExercisedNonOption = 24,
+    FailNonSecurity = 25,
+    DvpNonSecurity = 26,
 }
 
 // Rows 30, 50 and 51.
 #[derive(Clone, Copy)]
 pub enum NettingFault {
-    NetTooLarge,
-    BadDeposit,
-    UnlikeMultipliers,
+    NetTooLarge = 30,
+    BadDeposit = 50,
+    UnlikeMultipliers = 51,
 }
 
 // Row 40.
 #[derive(Clone, Copy)]
 pub enum ReportFault {
-    TooShort,
+    TooShort = 40,
 }
 
 // Rows 60 and 61.
 #[derive(Clone, Copy)]
 pub enum AccountsFault {
-    BadLengths,
-    ShortResults,
+    BadLengths = 60,
+    ShortResults = 61,
 }
 
-// What a printed text says: a report's line count and totals, a refusal's number and place, or neither.
+// What a printed text says: a report's line count and totals, or a refusal's number and place.
 #[derive(Clone, Copy)]
 pub enum TextSays {
     Report(ReportTotals),
     Refusal(u32, u32),
-    Unreadable,
 }
 
 // The line count of a report and its totals.
@@ -138,18 +124,4 @@ pub struct ReportTotals {
     pub ordinary: i64,
     pub fail: i64,
     pub account: i64,
-}
-
-// A number at the front of a text and the bytes that it takes, or none.
-#[derive(Clone, Copy)]
-pub enum NumberRead {
-    Number(u64, usize),
-    NoNumber,
-}
-
-// The same of an amount.
-#[derive(Clone, Copy)]
-pub enum AmountRead {
-    Amount(i64, usize),
-    NoAmount,
 }

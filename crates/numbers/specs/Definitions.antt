@@ -1,8 +1,6 @@
 -- The definitions that the model rests on, apart from their laws: sums, the first index that passes a test, extremes, lists by index, sets as numbers, writing.
-use Rattle.std.specs.Prelude.{Bool, true, false, ◌&&◌, ◌||◌, cond, List, [], ◌∷◌, ◌++◌, ℕ, zero, suc, ◌+◌, ◌/◌, ◌%◌, ◌^◌, ltb, eqb, ℤ, pos, nat_abs, ◌+ℤ◌, length, take, drop}
+use Rattle.std.specs.Prelude.{Bool, true, false, ◌&&◌, ◌||◌, cond, List, [], ◌∷◌, ◌++◌, ℕ, zero, suc, ◌+◌, ◌/◌, ◌%◌, ◌^◌, ltb, eqb, ℤ, pos, nat_abs, ◌+ℤ◌, length, take, drop, Option, Some, None, is_some}
 use Rattle.std.specs.Int.Signed.{lt_z}
-use Rattle.numbers.specs.declared.Found.{Found}
-use Rattle.numbers.specs.declared.Found.TheVariants.{At, Nothing}
 
 -- ---- sums over the indices below n (laws: Sums)
 
@@ -25,27 +23,22 @@ sum_n_where n t f = sum_n n (λ i. cond (t i) (f i) 0)
 -- ---- the first index below n at which a test holds, or none (laws: Scan)
 
 -- what a scan that stood at a place says with index n looked at, whose test gave b
-abbrev pub next : Found → Bool → ℕ → Found
-next (At k) b n = At k
-next Nothing true n = At n
-next Nothing false n = Nothing
+abbrev pub next : Option ℕ → Bool → ℕ → Option ℕ
+next (Some k) b n = Some k
+next None true n = Some n
+next None false n = None
 
-unfoldable pub first_bad : (ℕ → Bool) → ℕ → Found
-first_bad t zero = Nothing
+unfoldable pub first_bad : (ℕ → Bool) → ℕ → Option ℕ
+first_bad t zero = None
 first_bad t (suc n) = next (first_bad t n) (t n) n
 
 -- the same by another name, where what is looked for is no offence
-abbrev pub first_where : (ℕ → Bool) → ℕ → Found
+abbrev pub first_where : (ℕ → Bool) → ℕ → Option ℕ
 first_where t n = first_bad t n
-
--- a place or none, as a test
-abbrev pub hit : Found → Bool
-hit (At k) = true
-hit Nothing = false
 
 -- the test holds at some index below n
 abbrev pub any_below : ℕ → (ℕ → Bool) → Bool
-any_below n t = hit (first_bad t n)
+any_below n t = is_some (first_bad t n)
 
 -- ---- orders of indices, as a test whether i goes before j (laws: Order)
 

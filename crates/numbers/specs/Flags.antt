@@ -1,8 +1,8 @@
 -- A table of flags by key: flag p is set where some index below n has key p and passes a test. One more index touches its own flag.
-use Rattle.std.specs.Prelude.{◌≡◌, refl, Bool, true, false, ◌&&◌, ◌||◌, List, ℕ, ◌+◌, ◌<◌, eqb, set, replicate}
+use Rattle.std.specs.Prelude.{◌≡◌, refl, Bool, true, false, ◌&&◌, ◌||◌, List, ℕ, ◌+◌, ◌<◌, eqb, set, replicate, is_some}
 use Rattle.std.proofs.Common.{sym, ap, ◌∙◌, eq-eqb, ne_eqb}
 use Rattle.numbers.specs.Tests.{or_true, or_false, and_true}
-use Rattle.numbers.specs.Scan.{hit, any_below, any_none, any_more, first_ext}
+use Rattle.numbers.specs.Scan.{any_below, any_none, any_more, first_ext}
 use Rattle.numbers.specs.Table.{tabulate, tabulate_ext, tabulate-set, replicate_tabulate}
 
 abbrev pub flag : (ℕ → ℕ) → (ℕ → Bool) → ℕ → ℕ → Bool
@@ -31,4 +31,4 @@ module _ (m : ℕ) (key : ℕ → ℕ) (t : ℕ → Bool) where
 
 -- with no test but the key's
 pub flag-key : (key : ℕ → ℕ) (n p : ℕ) → flag key (λ r. true) n p ≡ any_below n (λ r. eqb (key r) p)
-flag-key key n p = ap hit (first_ext _ (λ r. eqb (key r) p) n (λ r h. and_true (eqb (key r) p)))
+flag-key key n p = ap is_some (first_ext _ (λ r. eqb (key r) p) n (λ r h. and_true (eqb (key r) p)))

@@ -94,3 +94,11 @@ module _ {A : Type 0} where
   put_part at w l last e =
       rest_part at l last (put 0 w) e
       ∙ ap (λ (x : List A). take at l ++ x) (put_front w (drop at l) ∙ ap (λ (x : List A). w ++ x) (drop-drop (length w) at l))
+
+  -- a part of w's length, which w is copied to
+  pub put_copied : (at k : ℕ) (w l last : List A) → last ≡ w → k ≡ length w → put_mid at k l last ≡ put at w l
+  unfolding put
+  put_copied at k w l last e n =
+      ap (λ (m : ℕ). take at l ++ (last ++ drop m (drop at l))) n
+      ∙ ap (λ (x : List A). take at l ++ (x ++ drop (length w) (drop at l))) e
+      ∙ ap (λ (r : List A). take at l ++ (w ++ r)) (drop-drop (length w) at l)

@@ -1,7 +1,5 @@
 -- Step 2: the spread of a class's open futures, and the contracts that remain non-spread.
-use Rattle.std.specs.Prelude.{Bool, ◌&&◌, List, ℕ, ℤ, pos, neg_ℤ, ◌+ℤ◌, ◌-ℤ◌, ◌*ℤ◌}
-use Rattle.numbers.specs.declared.Found.{Found}
-use Rattle.numbers.specs.declared.Found.TheVariants.{At, Nothing}
+use Rattle.std.specs.Prelude.{Bool, ◌&&◌, List, ℕ, ℤ, pos, neg_ℤ, ◌+ℤ◌, ◌-ℤ◌, ◌*ℤ◌, Option, Some, None}
 use Rattle.numbers.specs.Scan.{first_where}
 use Rattle.numbers.specs.Sums.{sum_where}
 use Rattle.numbers.specs.Extremes.{min_z, max_z, abs_z}
@@ -38,9 +36,9 @@ module _ (d : List ℕ) (net : ℕ → ℤ) (book : ℕ) where
   held_future c s = future_of d c s && not_zero (open_net net book s)
 
   -- the absolute net of a future found, 0 with none
-  abbrev pub size_at : Found → ℤ
-  size_at (At s) = abs_z (open_net net book s)
-  size_at Nothing = pos 0
+  abbrev pub size_at : Option ℕ → ℤ
+  size_at (Some s) = abs_z (open_net net book s)
+  size_at None = pos 0
 
   -- spot is the earliest expiry with a non-zero net: its absolute net
   unfoldable pub spot_size : ℕ → ℤ
