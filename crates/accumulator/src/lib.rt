@@ -24,10 +24,7 @@ fn change_amount(contracts: i64, base: u32, price: u32) -> i64
     requires { (nat_abs contracts ≤ contracts_limit) × (base ≤ price_limit) × (price ≤ price_limit) }
     ensures { result ≡ change_amount contracts base price }
 {
-    amounts::mul(
-        contracts,
-        amounts::sub(amounts::signed(price), amounts::signed(base)),
-    )
+    contracts * (i64::from(price) - i64::from(base))
 }
 
 impl Points {
@@ -69,12 +66,8 @@ impl Points {
         ensures { result.at ≡ added self.at position.contracts position.base position.prices }
     {
         let mut next = self;
-        let mut k: usize = 0;
-        while k < Points::COUNT {
-            let amount = change_amount(position.contracts, position.base, position.prices[k]);
-            let was = next.at[k];
-            next.at[k] = amounts::add(was, amount);
-            k = k + 1;
+        for k in 0..Points::COUNT {
+            next.at[k] += change_amount(position.contracts, position.base, position.prices[k]);
         }
         next
     }

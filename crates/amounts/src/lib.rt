@@ -30,25 +30,19 @@ pub fn mul(a: i64, b: i64) -> i64
 pub fn signed(a: u32) -> i64
     ensures { result ≡ pos a }
 {
-    a as i64
+    i64::from(a)
 }
 
 pub fn larger(a: i64, b: i64) -> i64
     ensures { result ≡ max_z a b }
 {
-    if a < b {
-        return b;
-    }
-    a
+    a.max(b)
 }
 
 pub fn smaller(a: i64, b: i64) -> i64
     ensures { result ≡ min_z a b }
 {
-    if a < b {
-        return a;
-    }
-    b
+    a.min(b)
 }
 
 // The absolute value.
@@ -56,10 +50,7 @@ pub fn absolute(a: i64) -> i64
     requires { nat_abs a < 2 ^ 63 }
     ensures { result ≡ abs_z a }
 {
-    if a < 0 {
-        return 0 - a;
-    }
-    a
+    a.abs()
 }
 
 pub fn not_zero(a: i64) -> bool

@@ -1,11 +1,11 @@
-// The fields of a position batch: of its header and of record r.
+// The fields of a position batch: of its header and of a record.
 #![tactic(auto)]
 
-ghost use Rattle.std.specs.Prelude.{◌≡◌, ◌+◌, ◌*◌, ◌^◌, ◌≤◌, ◌<◌, length};
-ghost use Rattle.model.specs.Batch.{batch_header, record_count, record_word, dvp_size, dvp_amount, batch_words};
+ghost use Rattle.std.specs.Prelude.{◌≡◌, ◌+◌, ◌*◌, ◌^◌, ◌≤◌, ◌<◌, eqb, length};
+ghost use Rattle.model.specs.Batch.{batch_header, record_count, record_word, dvp_size, dvp_amount, batch_words, record_words};
 ghost use Rattle.model.specs.Batch.{key as key_of, place as place_of, exercised as exercised_of, fail as fail_of, long as long_of, short as short_of};
 
-use words::{bits, index, payload, word_at};
+use words::{bits, payload, word_at};
 
 // The words of a record.
 pub const RECORD_WORDS: usize = 6;
@@ -27,83 +27,87 @@ pub fn batch_header(batch: &[u32]) -> u32
 pub fn record_count(batch: &[u32]) -> usize
     ensures { result ≡ record_count batch.now }
 {
-    index(payload(batch_header(batch)))
+    payload(batch_header(batch)) as usize
 }
 
-// Word i of record r.
-pub fn record_word(batch: &[u32], r: usize, i: usize) -> u32
-    requires { batch_words r + i < length batch.now }
-    ensures { result ≡ record_word batch.now r i }
-{
-    batch[1 + RECORD_WORDS * r + i]
+// A record, whose words are there.
+#[derive(Clone, Copy)]
+pub struct Record<'a> {
+    pub batch: &'a [u32],
+    pub index: usize,
+    pub ghost inside: { batch_words (index + 1) ≤ length batch.now },
 }
 
-// The position: place, bit 8 and bit 9, the low ten bits of the key.
-pub fn key(batch: &[u32], r: usize) -> usize
-    requires { batch_words (r + 1) ≤ length batch.now }
-    ensures { result ≡ key_of batch.now r }
-{
-    index(bits(payload(record_word(batch, r, 0)), 0, 10))
-}
+impl<'a> Record<'a> {
+    // The record at an index of a batch.
+    pub fn new(batch: &'a [u32], index: usize) -> Self
+        requires { batch_words (index + 1) ≤ length batch.now }
+        ensures { (result.batch.now ≡ batch.now) × (result.index ≡ index) }
+    {
+        Record { batch, index }
+    }
 
-// Place of the series in the day file, bits 0 to 7 of the key.
-pub fn place(batch: &[u32], r: usize) -> usize
-    requires { batch_words (r + 1) ≤ length batch.now }
-    ensures { result ≡ place_of batch.now r }
-{
-    index(bits(payload(record_word(batch, r, 0)), 0, 8))
-}
+    // Word i.
+    pub fn word(&self, i: usize) -> u32
+        requires { i < record_words }
+        ensures { result ≡ record_word self.now.batch.now self.now.index i }
+    {
+        self.batch[1 + RECORD_WORDS * self.index + i]
+    }
 
-// 1 if exercised or assigned, bit 8 of the key.
-pub fn exercised(batch: &[u32], r: usize) -> u32
-    requires { batch_words (r + 1) ≤ length batch.now }
-    ensures { result ≡ exercised_of batch.now r }
-{
-    bits(payload(record_word(batch, r, 0)), 8, 1)
-}
+    // The position: place, bit 8 and bit 9, the low ten bits of the key.
+    pub fn key(&self) -> usize
+        ensures { result ≡ key_of self.now.batch.now self.now.index }
+    {
+        bits(payload(self.word(0)), 0, 10) as usize
+    }
 
-// 1 if a fail, bit 9 of the key.
-pub fn fail(batch: &[u32], r: usize) -> u32
-    requires { batch_words (r + 1) ≤ length batch.now }
-    ensures { result ≡ fail_of batch.now r }
-{
-    bits(payload(record_word(batch, r, 0)), 9, 1)
-}
+    // Place of the series in the day file, bits 0 to 7 of the key.
+    pub fn place(&self) -> usize
+        ensures { result ≡ place_of self.now.batch.now self.now.index }
+    {
+        bits(payload(self.word(0)), 0, 8) as usize
+    }
 
-// Long quantity, or exercised.
-pub fn long(batch: &[u32], r: usize) -> u32
-    requires { batch_words (r + 1) ≤ length batch.now }
-    ensures { result ≡ long_of batch.now r }
-{
-    payload(record_word(batch, r, 1))
-}
+    // Exercised or assigned, bit 8 of the key.
+    pub fn is_exercised(&self) -> bool
+        ensures { result ≡ eqb (exercised_of self.now.batch.now self.now.index) 1 }
+    {
+        bits(payload(self.word(0)), 8, 1) == 1
+    }
 
-// Short quantity, or assigned.
-pub fn short(batch: &[u32], r: usize) -> u32
-    requires { batch_words (r + 1) ≤ length batch.now }
-    ensures { result ≡ short_of batch.now r }
-{
-    payload(record_word(batch, r, 2))
-}
+    // A fail, bit 9 of the key.
+    pub fn is_fail(&self) -> bool
+        ensures { result ≡ eqb (fail_of self.now.batch.now self.now.index) 1 }
+    {
+        bits(payload(self.word(0)), 9, 1) == 1
+    }
 
-// Magnitude of the DVP amount.
-pub fn dvp_size(batch: &[u32], r: usize) -> u64
-    requires { batch_words (r + 1) ≤ length batch.now }
-    ensures { (result ≡ dvp_size batch.now r) × (result < 2 ^ 63) }
-{
-    let u = record_word(batch, r, 3);
-    let v = record_word(batch, r, 4);
-    let w = record_word(batch, r, 5);
-    words::magnitude(u, v, w)
-}
+    // Long quantity, or exercised.
+    pub fn long(&self) -> u32
+        ensures { result ≡ long_of self.now.batch.now self.now.index }
+    {
+        payload(self.word(1))
+    }
 
-// DVP amount.
-pub fn dvp_amount(batch: &[u32], r: usize) -> i64
-    requires { batch_words (r + 1) ≤ length batch.now }
-    ensures { result ≡ dvp_amount batch.now r }
-{
-    let u = record_word(batch, r, 3);
-    let v = record_word(batch, r, 4);
-    let w = record_word(batch, r, 5);
-    words::amount(u, v, w)
+    // Short quantity, or assigned.
+    pub fn short(&self) -> u32
+        ensures { result ≡ short_of self.now.batch.now self.now.index }
+    {
+        payload(self.word(2))
+    }
+
+    // Magnitude of the DVP amount.
+    pub fn dvp_size(&self) -> u64
+        ensures { (result ≡ dvp_size self.now.batch.now self.now.index) × (result < 2 ^ 63) }
+    {
+        words::magnitude(self.word(3), self.word(4), self.word(5))
+    }
+
+    // DVP amount.
+    pub fn dvp_amount(&self) -> i64
+        ensures { result ≡ dvp_amount self.now.batch.now self.now.index }
+    {
+        words::amount(self.word(3), self.word(4), self.word(5))
+    }
 }

@@ -3,16 +3,13 @@
 
 ghost use Rattle.std.specs.Prelude.{min, ◌≡◌, get_or};
 
-use words::{index, word_at};
+use words::word_at;
 
 // A length of the file, held to what a memory takes.
 pub fn at_most(n: u32, most: usize) -> usize
     ensures { result ≡ min n most }
 {
-    if index(n) < most {
-        return index(n);
-    }
-    most
+    (n as usize).min(most)
 }
 
 #[derive(Drop)]
@@ -26,12 +23,9 @@ pub struct Lengths {
 pub fn lengths_within(lengths: &[u32], day: usize, batch: usize, memory: usize) -> Lengths
     ensures { (result.day ≡ min (get_or lengths.now 0 0) day) × (result.batch ≡ min (get_or lengths.now 1 0) batch) × (result.memory ≡ min (get_or lengths.now 2 0) memory) }
 {
-    let d = at_most(word_at(lengths, 0), day);
-    let b = at_most(word_at(lengths, 1), batch);
-    let m = at_most(word_at(lengths, 2), memory);
     Lengths {
-        day: d,
-        batch: b,
-        memory: m,
+        day: at_most(word_at(lengths, 0), day),
+        batch: at_most(word_at(lengths, 1), batch),
+        memory: at_most(word_at(lengths, 2), memory),
     }
 }

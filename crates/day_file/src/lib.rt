@@ -1,11 +1,14 @@
-// The fields of a day file: of its header, of class c and of series s.
+// The fields of a day file: of its header, of a class and of a series.
 #![tactic(auto)]
 
 ghost use Rattle.std.specs.Prelude.{◌≡◌, ◌+◌, ◌*◌, ◌≤◌, ◌<◌, length};
-ghost use Rattle.model.specs.DayFile.{day_header, class_count, series_count, class_word, class_number, spot_rate, non_spot_rate, option_rate, future_rate, equity_rate, warrant_rate, rights_rate, series_word, series_key, series_type, series_class_number, class_at, series_at, series_words};
+ghost use Rattle.model.specs.DayFile.{day_header, class_count, series_count, class_word, class_number, spot_rate, non_spot_rate, option_rate, future_rate, equity_rate, warrant_rate, rights_rate, series_word, series_key, series_type, series_class_number, class_at, series_at, class_words, series_words, is_future, is_call, is_put, is_option, is_security};
 ghost use Rattle.model.specs.DayFile.{group as group_of, underlying as underlying_of, offset as offset_of, serial as serial_of, expiry as expiry_of, multiplier as multiplier_of, strike as strike_of, closing as closing_of, adjustment as adjustment_of};
+ghost use Rattle.model.specs.Steps.Cover.{is_coverable};
+ghost use Rattle.series_types.specs.Types.{read_type};
 
-use words::{bits, index, payload, word_at};
+use series_types::{SeriesType, UnknownType};
+use words::{bits, payload, word_at};
 
 // The words of a class.
 pub const CLASS_WORDS: usize = 20;
@@ -36,207 +39,260 @@ pub fn day_header(day: &[u32]) -> u32
 pub fn class_count(day: &[u32]) -> usize
     ensures { result ≡ class_count day.now }
 {
-    index(bits(payload(day_header(day)), 0, 7))
+    bits(payload(day_header(day)), 0, 7) as usize
 }
 
 // S, bits 7 to 15.
 pub fn series_count(day: &[u32]) -> usize
     ensures { result ≡ series_count day.now }
 {
-    index(bits(payload(day_header(day)), 7, 9))
+    bits(payload(day_header(day)), 7, 9) as usize
 }
 
-// Word i of class c.
-pub fn class_word(day: &[u32], c: usize, i: usize) -> u32
-    requires { class_at c + i < length day.now }
-    ensures { result ≡ class_word day.now c i }
-{
-    day[1 + CLASS_WORDS * c + i]
+// A class, whose words are there.
+#[derive(Clone, Copy)]
+pub struct Class<'a> {
+    pub day: &'a [u32],
+    pub place: usize,
+    pub ghost inside: { class_at (place + 1) ≤ length day.now },
 }
 
-// Product group, bits 0 to 4 of the key.
-pub fn group(day: &[u32], c: usize) -> usize
-    requires { class_at (c + 1) ≤ length day.now }
-    ensures { result ≡ group_of day.now c }
-{
-    index(bits(payload(class_word(day, c, 0)), 0, 5))
+impl<'a> Class<'a> {
+    // The class in a place of a day file.
+    pub fn new(day: &'a [u32], place: usize) -> Self
+        requires { class_at (place + 1) ≤ length day.now }
+        ensures { (result.day.now ≡ day.now) × (result.place ≡ place) }
+    {
+        Class { day, place }
+    }
+
+    // Word i.
+    pub fn word(&self, i: usize) -> u32
+        requires { i < class_words }
+        ensures { result ≡ class_word self.now.day.now self.now.place i }
+    {
+        self.day[1 + CLASS_WORDS * self.place + i]
+    }
+
+    // Product group, bits 0 to 4 of the key.
+    pub fn group(&self) -> usize
+        ensures { result ≡ group_of self.now.day.now self.now.place }
+    {
+        bits(payload(self.word(0)), 0, 5) as usize
+    }
+
+    // Class number, bits 5 to 10 of the key.
+    pub fn number(&self) -> usize
+        ensures { result ≡ class_number self.now.day.now self.now.place }
+    {
+        bits(payload(self.word(0)), 5, 6) as usize
+    }
+
+    // Underlying price.
+    pub fn underlying(&self) -> u32
+        ensures { result ≡ underlying_of self.now.day.now self.now.place }
+    {
+        payload(self.word(1))
+    }
+
+    // Spot spread rate.
+    pub fn spot_rate(&self) -> u32
+        ensures { result ≡ spot_rate self.now.day.now self.now.place }
+    {
+        payload(self.word(2))
+    }
+
+    // Non-spot spread rate.
+    pub fn non_spot_rate(&self) -> u32
+        ensures { result ≡ non_spot_rate self.now.day.now self.now.place }
+    {
+        payload(self.word(3))
+    }
+
+    // Minimum rate for options.
+    pub fn option_rate(&self) -> u32
+        ensures { result ≡ option_rate self.now.day.now self.now.place }
+    {
+        payload(self.word(4))
+    }
+
+    // Minimum rate for futures.
+    pub fn future_rate(&self) -> u32
+        ensures { result ≡ future_rate self.now.day.now self.now.place }
+    {
+        payload(self.word(5))
+    }
+
+    // Minimum rate for equities.
+    pub fn equity_rate(&self) -> u32
+        ensures { result ≡ equity_rate self.now.day.now self.now.place }
+    {
+        payload(self.word(6))
+    }
+
+    // Minimum rate for warrants.
+    pub fn warrant_rate(&self) -> u32
+        ensures { result ≡ warrant_rate self.now.day.now self.now.place }
+    {
+        payload(self.word(7))
+    }
+
+    // Minimum rate for rights.
+    pub fn rights_rate(&self) -> u32
+        ensures { result ≡ rights_rate self.now.day.now self.now.place }
+    {
+        payload(self.word(8))
+    }
+
+    // Group offset in hundredths of a percent.
+    pub fn offset(&self) -> u32
+        ensures { result ≡ offset_of self.now.day.now self.now.place }
+    {
+        payload(self.word(9))
+    }
 }
 
-// Class number, bits 5 to 10 of the key.
-pub fn class_number(day: &[u32], c: usize) -> usize
-    requires { class_at (c + 1) ≤ length day.now }
-    ensures { result ≡ class_number day.now c }
-{
-    index(bits(payload(class_word(day, c, 0)), 5, 6))
+// A series, whose words are there.
+#[derive(Clone, Copy)]
+pub struct Series<'a> {
+    pub day: &'a [u32],
+    pub place: usize,
+    pub ghost inside: { series_at day.now (place + 1) ≤ length day.now },
 }
 
-// Underlying price.
-pub fn underlying(day: &[u32], c: usize) -> u32
-    requires { class_at (c + 1) ≤ length day.now }
-    ensures { result ≡ underlying_of day.now c }
-{
-    payload(class_word(day, c, 1))
-}
+impl<'a> Series<'a> {
+    // The series in a place of a day file.
+    pub fn new(day: &'a [u32], place: usize) -> Self
+        requires { series_at day.now (place + 1) ≤ length day.now }
+        ensures { (result.day.now ≡ day.now) × (result.place ≡ place) }
+    {
+        Series { day, place }
+    }
 
-// Spot spread rate.
-pub fn spot_rate(day: &[u32], c: usize) -> u32
-    requires { class_at (c + 1) ≤ length day.now }
-    ensures { result ≡ spot_rate day.now c }
-{
-    payload(class_word(day, c, 2))
-}
+    // Word i.
+    pub fn word(&self, i: usize) -> u32
+        requires { i < series_words }
+        ensures { result ≡ series_word self.now.day.now self.now.place i }
+    {
+        self.day[1 + CLASS_WORDS * class_count(self.day) + SERIES_WORDS * self.place + i]
+    }
 
-// Non-spot spread rate.
-pub fn non_spot_rate(day: &[u32], c: usize) -> u32
-    requires { class_at (c + 1) ≤ length day.now }
-    ensures { result ≡ non_spot_rate day.now c }
-{
-    payload(class_word(day, c, 3))
-}
+    // The key payload.
+    pub fn key(&self) -> u32
+        ensures { result ≡ series_key self.now.day.now self.now.place }
+    {
+        payload(self.word(0))
+    }
 
-// Minimum rate for options.
-pub fn option_rate(day: &[u32], c: usize) -> u32
-    requires { class_at (c + 1) ≤ length day.now }
-    ensures { result ≡ option_rate day.now c }
-{
-    payload(class_word(day, c, 4))
-}
+    // Serial, bits 0 to 6 of the key.
+    pub fn serial(&self) -> u32
+        ensures { result ≡ serial_of self.now.day.now self.now.place }
+    {
+        bits(self.key(), 0, 7)
+    }
 
-// Minimum rate for futures.
-pub fn future_rate(day: &[u32], c: usize) -> u32
-    requires { class_at (c + 1) ≤ length day.now }
-    ensures { result ≡ future_rate day.now c }
-{
-    payload(class_word(day, c, 5))
-}
+    // Expiry as months since January 2000, bits 7 to 18 of the key.
+    pub fn expiry(&self) -> u32
+        ensures { result ≡ expiry_of self.now.day.now self.now.place }
+    {
+        bits(self.key(), 7, 12)
+    }
 
-// Minimum rate for equities.
-pub fn equity_rate(day: &[u32], c: usize) -> u32
-    requires { class_at (c + 1) ≤ length day.now }
-    ensures { result ≡ equity_rate day.now c }
-{
-    payload(class_word(day, c, 6))
-}
+    // Type, bits 19 to 22 of the key.
+    pub fn series_type(&self) -> Result<SeriesType, UnknownType>
+        ensures { result ≡ read_type (series_type self.now.day.now self.now.place) }
+    {
+        SeriesType::try_from(bits(self.key(), 19, 4))
+    }
 
-// Minimum rate for warrants.
-pub fn warrant_rate(day: &[u32], c: usize) -> u32
-    requires { class_at (c + 1) ≤ length day.now }
-    ensures { result ≡ warrant_rate day.now c }
-{
-    payload(class_word(day, c, 7))
-}
+    // The type's number, of a series whose type is any four bits.
+    pub fn type_number(&self) -> usize
+        ensures { (result ≡ series_type self.now.day.now self.now.place) × (result < 16) }
+    {
+        bits(self.key(), 19, 4) as usize
+    }
 
-// Minimum rate for rights.
-pub fn rights_rate(day: &[u32], c: usize) -> u32
-    requires { class_at (c + 1) ≤ length day.now }
-    ensures { result ≡ rights_rate day.now c }
-{
-    payload(class_word(day, c, 8))
-}
+    // A future.
+    pub fn is_future(&self) -> bool
+        ensures { result ≡ is_future (series_type self.now.day.now self.now.place) }
+    {
+        self.series_type().is_ok_and(|t| t == SeriesType::Future)
+    }
 
-// Group offset in hundredths of a percent.
-pub fn offset(day: &[u32], c: usize) -> u32
-    requires { class_at (c + 1) ≤ length day.now }
-    ensures { result ≡ offset_of day.now c }
-{
-    payload(class_word(day, c, 9))
-}
+    pub fn is_call(&self) -> bool
+        ensures { result ≡ is_call (series_type self.now.day.now self.now.place) }
+    {
+        self.series_type().is_ok_and(|t| t == SeriesType::Call)
+    }
 
-// Word i of series s.
-pub fn series_word(day: &[u32], s: usize, i: usize) -> u32
-    requires { series_at day.now s + i < length day.now }
-    ensures { result ≡ series_word day.now s i }
-{
-    day[1 + CLASS_WORDS * class_count(day) + SERIES_WORDS * s + i]
-}
+    pub fn is_put(&self) -> bool
+        ensures { result ≡ is_put (series_type self.now.day.now self.now.place) }
+    {
+        self.series_type().is_ok_and(|t| t == SeriesType::Put)
+    }
 
-// The key payload.
-pub fn series_key(day: &[u32], s: usize) -> u32
-    requires { series_at day.now (s + 1) ≤ length day.now }
-    ensures { result ≡ series_key day.now s }
-{
-    payload(series_word(day, s, 0))
-}
+    // A call or a put.
+    pub fn is_option(&self) -> bool
+        ensures { result ≡ is_option (series_type self.now.day.now self.now.place) }
+    {
+        self.series_type().is_ok_and(|t| t.is_option())
+    }
 
-// Serial, bits 0 to 6 of the key.
-pub fn serial(day: &[u32], s: usize) -> u32
-    requires { series_at day.now (s + 1) ≤ length day.now }
-    ensures { result ≡ serial_of day.now s }
-{
-    bits(series_key(day, s), 0, 7)
-}
+    // An equity, a warrant or a rights issue.
+    pub fn is_security(&self) -> bool
+        ensures { result ≡ is_security (series_type self.now.day.now self.now.place) }
+    {
+        self.series_type().is_ok_and(|t| t.is_security())
+    }
 
-// Expiry as months since January 2000, bits 7 to 18 of the key.
-pub fn expiry(day: &[u32], s: usize) -> u32
-    requires { series_at day.now (s + 1) ≤ length day.now }
-    ensures { result ≡ expiry_of day.now s }
-{
-    bits(series_key(day, s), 7, 12)
-}
+    // Of a type that deposits cover.
+    pub fn is_coverable(&self) -> bool
+        ensures { result ≡ is_coverable (series_type self.now.day.now self.now.place) }
+    {
+        self.series_type().is_ok_and(|t| t.is_coverable())
+    }
 
-// Type, bits 19 to 22 of the key.
-pub fn series_type(day: &[u32], s: usize) -> u32
-    requires { series_at day.now (s + 1) ≤ length day.now }
-    ensures { result ≡ series_type day.now s }
-{
-    bits(series_key(day, s), 19, 4)
-}
+    // Class number, bits 23 to 28 of the key.
+    pub fn class_number(&self) -> usize
+        ensures { result ≡ series_class_number self.now.day.now self.now.place }
+    {
+        bits(self.key(), 23, 6) as usize
+    }
 
-// Class number, bits 23 to 28 of the key.
-pub fn series_class_number(day: &[u32], s: usize) -> usize
-    requires { series_at day.now (s + 1) ≤ length day.now }
-    ensures { result ≡ series_class_number day.now s }
-{
-    index(bits(series_key(day, s), 23, 6))
-}
+    // Multiplier.
+    pub fn multiplier(&self) -> u32
+        ensures { result ≡ multiplier_of self.now.day.now self.now.place }
+    {
+        payload(self.word(1))
+    }
 
-// Multiplier.
-pub fn multiplier(day: &[u32], s: usize) -> u32
-    requires { series_at day.now (s + 1) ≤ length day.now }
-    ensures { result ≡ multiplier_of day.now s }
-{
-    payload(series_word(day, s, 1))
-}
+    // Strike.
+    pub fn strike(&self) -> u32
+        ensures { result ≡ strike_of self.now.day.now self.now.place }
+    {
+        payload(self.word(2))
+    }
 
-// Strike.
-pub fn strike(day: &[u32], s: usize) -> u32
-    requires { series_at day.now (s + 1) ≤ length day.now }
-    ensures { result ≡ strike_of day.now s }
-{
-    payload(series_word(day, s, 2))
-}
+    // Closing price.
+    pub fn closing(&self) -> u32
+        ensures { result ≡ closing_of self.now.day.now self.now.place }
+    {
+        payload(self.word(3))
+    }
 
-// Closing price.
-pub fn closing(day: &[u32], s: usize) -> u32
-    requires { series_at day.now (s + 1) ≤ length day.now }
-    ensures { result ≡ closing_of day.now s }
-{
-    payload(series_word(day, s, 3))
-}
-
-// Short option adjustment.
-pub fn adjustment(day: &[u32], s: usize) -> u32
-    requires { series_at day.now (s + 1) ≤ length day.now }
-    ensures { result ≡ adjustment_of day.now s }
-{
-    payload(series_word(day, s, 4))
-}
-
-// Word i of series s in words that may be too few, 0 past their end.
-fn series_word_at(day: &[u32], s: usize, i: usize) -> u32
-    requires { (s < 4294967296) × (i < series_words) }
-    ensures { result ≡ series_word day.now s i }
-{
-    word_at(
-        day,
-        1 + CLASS_WORDS * class_count(day) + SERIES_WORDS * s + i,
-    )
+    // Short option adjustment.
+    pub fn adjustment(&self) -> u32
+        ensures { result ≡ adjustment_of self.now.day.now self.now.place }
+    {
+        payload(self.word(4))
+    }
 }
 
 // Type of series s in words that may be too few.
-pub fn series_type_at(day: &[u32], s: usize) -> u32
+pub fn series_type_at(day: &[u32], s: usize) -> Result<SeriesType, UnknownType>
     requires { s < 4294967296 }
-    ensures { result ≡ series_type day.now s }
+    ensures { result ≡ read_type (series_type day.now s) }
 {
-    bits(payload(series_word_at(day, s, 0)), 19, 4)
+    let key = payload(word_at(day, 1 + CLASS_WORDS * class_count(day) + SERIES_WORDS * s));
+    SeriesType::try_from(bits(key, 19, 4))
 }

@@ -3,23 +3,39 @@
 
 ghost use Rattle.std.specs.Prelude.{◌≡◌, ◌*◌, ◌<◌, pos, get_or};
 ghost use Rattle.model.specs.Netting.{position as position_of, places};
+ghost use Rattle.positions.specs.Books.{book_number, holding_number};
 
 use batch::PLACES;
 
-// An amount of a table, 0 past its end.
-fn amount_at(table: &[i64], i: usize) -> i64
-    ensures { result ≡ get_or table.now i (pos 0) }
-{
-    if i < table.len() {
-        return table[i];
-    }
-    0
+// The book of a position.
+#[derive(Clone, Copy)]
+pub enum Book {
+    Ordinary = 0,
+    Fail = 1,
 }
 
-// The position of series s in a book: open with x = 0, exercised or assigned with x = 1.
-pub fn position_amount(table: &[i64], book: usize, x: usize, s: usize) -> i64
-    requires { (book < 2) × (x < 2) × (s < 2 * places) }
-    ensures { result ≡ get_or table.now (position_of book x s) (pos 0) }
+impl Book {
+    pub fn number(self) -> u32
+        ensures { result ≡ book_number self }
+    {
+        self as u32
+    }
+}
+
+// Open, or exercised or assigned.
+#[derive(Clone, Copy)]
+pub enum Holding {
+    Open = 0,
+    Exercised = 1,
+}
+
+// The amount of a position of series s in a table, 0 past its end.
+pub fn position_amount(table: &[i64], book: Book, holding: Holding, s: usize) -> i64
+    requires { s < 2 * places }
+    ensures { result ≡ get_or table.now (position_of (book_number book) (holding_number holding) s) (pos 0) }
 {
-    amount_at(table, s + PLACES * x + 2 * PLACES * book)
+    table
+        .get(s + PLACES * holding as usize + 2 * PLACES * book as usize)
+        .copied()
+        .unwrap_or(0)
 }

@@ -4,73 +4,87 @@
 ghost use Rattle.std.specs.Prelude.{◌≡◌};
 ghost use Rattle.model.specs.DayFile.{is_future, is_call, is_put, is_option, is_equity, is_warrant, is_rights, is_security, is_derivative};
 ghost use Rattle.model.specs.Steps.Cover.{is_coverable};
+ghost use Rattle.series_types.specs.Types.{type_number, read_type};
 
-// Type 1.
-pub fn is_future(t: u32) -> bool
-    ensures { result ≡ is_future t }
-{
-    t == 1
+#[derive(Clone, Copy, PartialEq, Eq)]
+pub enum SeriesType {
+    Future = 1,
+    Call = 2,
+    Put = 3,
+    Equity = 4,
+    Warrant = 5,
+    Rights = 6,
 }
 
-// Type 2.
-pub fn is_call(t: u32) -> bool
-    ensures { result ≡ is_call t }
-{
-    t == 2
+// A number that no type has.
+#[derive(Clone, Copy)]
+pub struct UnknownType {
+    pub number: u32,
 }
 
-// Type 3.
-pub fn is_put(t: u32) -> bool
-    ensures { result ≡ is_put t }
-{
-    t == 3
+impl TryFrom<u32> for SeriesType {
+    type Error = UnknownType;
+
+    ghost try_from_gives = { λ n r. r ≡ read_type n };
+
+    fn try_from(number: u32) -> Result<Self, UnknownType> {
+        match number {
+            1 => Ok(SeriesType::Future),
+            2 => Ok(SeriesType::Call),
+            3 => Ok(SeriesType::Put),
+            4 => Ok(SeriesType::Equity),
+            5 => Ok(SeriesType::Warrant),
+            6 => Ok(SeriesType::Rights),
+            _ => Err(UnknownType { number }),
+        }
+    }
 }
 
-// A call or a put.
-pub fn is_option(t: u32) -> bool
-    ensures { result ≡ is_option t }
-{
-    is_call(t) | is_put(t)
-}
+impl SeriesType {
+    // In the order of their numbers.
+    pub const ALL: [SeriesType; 6] = [
+        SeriesType::Future,
+        SeriesType::Call,
+        SeriesType::Put,
+        SeriesType::Equity,
+        SeriesType::Warrant,
+        SeriesType::Rights,
+    ];
 
-// Type 4.
-pub fn is_equity(t: u32) -> bool
-    ensures { result ≡ is_equity t }
-{
-    t == 4
-}
+    pub fn number(self) -> usize
+        ensures { result ≡ type_number self }
+    {
+        self as usize
+    }
 
-// Type 5.
-pub fn is_warrant(t: u32) -> bool
-    ensures { result ≡ is_warrant t }
-{
-    t == 5
-}
+    // A call or a put.
+    pub fn is_option(self) -> bool
+        ensures { result ≡ is_option (type_number self) }
+    {
+        matches!(self, SeriesType::Call | SeriesType::Put)
+    }
 
-// Type 6.
-fn is_rights(t: u32) -> bool
-    ensures { result ≡ is_rights t }
-{
-    t == 6
-}
+    // An equity, a warrant or a rights issue.
+    pub fn is_security(self) -> bool
+        ensures { result ≡ is_security (type_number self) }
+    {
+        matches!(
+            self,
+            SeriesType::Equity | SeriesType::Warrant | SeriesType::Rights
+        )
+    }
 
-// An equity, a warrant or a rights issue.
-pub fn is_security(t: u32) -> bool
-    ensures { result ≡ is_security t }
-{
-    is_equity(t) | is_warrant(t) | is_rights(t)
-}
+    // A future or an option.
+    pub fn is_derivative(self) -> bool
+        ensures { result ≡ is_derivative (type_number self) }
+    {
+        matches!(self, SeriesType::Future) | self.is_option()
+    }
 
-// A future or an option.
-pub fn is_derivative(t: u32) -> bool
-    ensures { result ≡ is_derivative t }
-{
-    is_future(t) | is_option(t)
-}
-
-// A type that deposits cover: a future.
-pub fn is_coverable(t: u32) -> bool
-    ensures { result ≡ is_coverable t }
-{
-    is_future(t)
+    // A type that deposits cover: a future.
+    pub fn is_coverable(self) -> bool
+        ensures { result ≡ is_coverable (type_number self) }
+    {
+        matches!(self, SeriesType::Future)
+    }
 }

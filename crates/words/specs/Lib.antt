@@ -1,2 +1,3 @@
+pub mod Kinds
 pub mod Signed
 pub mod Shifts

@@ -1,12 +1,9 @@
-use Rattle.std.proofs.Common.{rules}
+use Rattle.std.proofs.Common.{rules, refl, eqb}
+use Rattle.numbers.specs.Finding.{find_below}
+use Rattle.model.specs.DayFile.{class_number}
 use Rattle.deposits.proofs.class_with.Goals as goal
-use Rattle.numbers.specs.Scan.{scan}
 
-pub loop-c-init : goal.loop-c-init
-loop-c-init c = search (scan, rules)
-
-pub returns-then-has_number : goal.returns-then-has_number
-returns-then-has_number c = rw (← c.class_count-count.ensures) (search (scan, rules))
-
-pub loop-c-preserved : goal.loop-c-preserved
-loop-c-preserved c = search (scan, rules)
+pub returns : goal.returns
+returns c =
+    let a = c.args in
+    rw (find_below _ (λ k. eqb (class_number a.day.now k) a.n) c.find.ensures.ran (λ x v q k. search rules) refl, c.class_count.ensures)

@@ -1,12 +1,9 @@
-use Rattle.std.proofs.Common.{◌-◌, ◌≡◌, ◌≤◌, pos, get_or}
+use Rattle.std.proofs.Common.{◌≡◌, pos, get_or}
 use Rattle.model.specs.Limits.{point_count}
-use Rattle.accumulator.proofs.Points.add.Given as goal
-use Rattle.accumulator.specs.Added.{added_at}
 use Rattle.numbers.specs.Filling.{filled}
+use Rattle.accumulator.specs.Added.{added_at}
+use Rattle.accumulator.proofs.Points.add.Given as goal
 
 abbrev pub invariant-loop-k : goal.invariant-loop-k
 invariant-loop-k l =
-    (l.k ≤ point_count) × (l.next.at ≡ filled point_count (added_at l.fn.self.at l.position.contracts l.position.base l.position.prices) (λ i. get_or l.fn.self.at i (pos 0)) l.k)
-
-abbrev pub decreases-loop-k : goal.decreases-loop-k
-decreases-loop-k l = point_count - l.k
+    l.next.at ≡ filled point_count (added_at l.fn.self.at l.position.contracts l.position.base l.position.prices) (λ i. get_or l.fn.self.at i (pos 0)) l.k
