@@ -8,25 +8,22 @@ ghost use Rattle.model.specs.Limits.{most_accounts};
 ghost use Rattle.model.specs.ManyAccounts.{result_numbers, words_in, pair_of};
 
 use accounts_check::RESULT_NUMBERS;
-use model::Answer;
+use model::Check;
 
 // The words that an answer wrote: a refusal none.
-pub fn words_in(answer: Answer) -> usize
+pub fn words_in(answer: Result<usize, Check>) -> usize
     ensures { result ≡ words_in answer }
 {
-    match answer {
-        Answer::Report(n) => n,
-        Answer::Refused(_) => 0,
-    }
+    answer.unwrap_or(0)
 }
 
 // The two numbers of account i.
-pub fn write_pair(results: &mut [u32], i: usize, answer: Answer)
+pub fn write_pair(results: &mut [u32], i: usize, answer: Result<usize, Check>)
     requires i_lt_most_accounts { (i < most_accounts) × (result_numbers * i + result_numbers ≤ length results.old) }
     requires answer_bound { value_of answer < 2 ^ 32 }
     ensures { results.new ≡ put (result_numbers * i) (pair_of answer) results.old }
 {
     let at = RESULT_NUMBERS * i;
-    results[at] = answers::status(answer);
-    results[at + 1] = answers::value(answer) as u32;
+    let pair = [answers::status(answer), answers::value(answer) as u32];
+    results[at..at + RESULT_NUMBERS].copy_from_slice(&pair);
 }

@@ -5,8 +5,7 @@ ghost use Rattle.std.specs.Prelude.{◌≡◌, ◌≤◌, length};
 ghost use Rattle.model.specs.Limits.{most_accounts};
 ghost use Rattle.model.specs.ManyAccounts.{words_before, row60, row61, accounts_check};
 
-use model::{AccountsFault, Check, Verdict};
-use words::{index, word_at};
+use model::{AccountsFault, Check};
 
 // The accounts of one call.
 const MOST_ACCOUNTS: usize = 64;
@@ -19,23 +18,14 @@ fn sum(lengths: &[u32]) -> usize
     requires { length lengths.now ≤ most_accounts }
     ensures { result ≡ words_before lengths.now (length lengths.now) }
 {
-    let mut total: usize = 0;
-    let mut i: usize = 0;
-    while i < lengths.len() {
-        total = total + index(word_at(lengths, i));
-        i = i + 1;
-    }
-    total
+    lengths.iter().map(|n| *n as usize).sum()
 }
 
 // Row 60: too many accounts, or lengths that do not add up to the words given.
 fn bad_lengths(batches: &[u32], lengths: &[u32]) -> bool
     ensures { result ≡ row60 batches.now lengths.now }
 {
-    if MOST_ACCOUNTS < lengths.len() {
-        return true;
-    }
-    sum(lengths) != batches.len()
+    MOST_ACCOUNTS < lengths.len() || sum(lengths) != batches.len()
 }
 
 // Row 61: a result list too short for its accounts.
@@ -46,14 +36,14 @@ fn short_results(lengths: &[u32], entries: usize) -> bool
 }
 
 // Both rows, where the result list has this many entries.
-pub fn check_accounts(batches: &[u32], lengths: &[u32], entries: usize) -> Verdict
+pub fn check_accounts(batches: &[u32], lengths: &[u32], entries: usize) -> Result<(), Check>
     ensures { result ≡ accounts_check batches.now lengths.now entries }
 {
     if bad_lengths(batches, lengths) {
-        return Verdict::Failed(Check::Accounts(AccountsFault::BadLengths, 0));
+        return Err(Check::Accounts(AccountsFault::BadLengths, 0));
     }
     if short_results(lengths, entries) {
-        return Verdict::Failed(Check::Accounts(AccountsFault::ShortResults, 0));
+        return Err(Check::Accounts(AccountsFault::ShortResults, 0));
     }
-    Verdict::Passed
+    Ok(())
 }

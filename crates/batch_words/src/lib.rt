@@ -1,134 +1,125 @@
 // Rows 22, 27 and 28: the words of every record of a batch, each row over all words before the next.
 #![tactic(auto)]
 
-ghost use Rattle.std.specs.Prelude.{◌≡◌, ◌+◌, ◌≤◌, ◌<◌, length};
-ghost use Rattle.numbers.specs.declared.Found.TheVariants.{Nothing};
+ghost use Rattle.std.specs.Prelude.{◌≡◌, ◌+◌, ◌≤◌, ◌<◌, length, None};
 ghost use Rattle.numbers.specs.Scan.{first_bad};
 ghost use Rattle.model.specs.Batch.{record_count, record_words, batch_words};
-ghost use Rattle.model.specs.BatchChecks.{dvp_out_of_range, row22, row27, row28, row_of, word_row, word_check};
+ghost use Rattle.model.specs.BatchChecks.{dvp_out_of_range, dvp_minus_zero, wrong_kind, out_of_range, minus_zero, row_of, word_row, word_check};
 ghost use Rattle.record_words.specs.BadRecord.{bad_record};
 
-use batch::{RECORD_WORDS, dvp_size, record_count, record_word};
-use model::{BatchWordsFault, Check, Verdict};
-use numbers::Found;
+use batch::{RECORD_WORDS, Record, record_count};
+use model::{BatchWordsFault, Check};
 use record_words::{DVP_AMOUNT_LIMIT, first_bad_record, record_kind, record_limit};
-use words::{bits, kind, negative, payload};
+use words::{bits, has_kind, negative, payload};
 
-// Row 22 of word j of record r.
-fn wrong_kind(batch: &[u32], r: usize, j: usize) -> bool
-    requires j_lt_record_words { j < record_words }
-    requires r_in_bounds { batch_words (r + 1) ≤ length batch.now }
-    ensures { result ≡ row22 batch.now (batch_words r + j) }
+// Row 22 of word j of a record.
+#[tactic(auto, unfolding(model::specs::BatchChecks::wrong_kind))]
+fn wrong_kind(r: &Record, j: usize) -> bool
+    requires { j < record_words }
+    ensures { result ≡ wrong_kind r.now.batch.now r.now.index j }
 {
-    kind(record_word(batch, r, j)) != record_kind(j)
+    !has_kind(r.word(j), record_kind(j))
 }
 
 // The DVP amount has a spare bit or is too large.
-fn dvp_out_of_range(batch: &[u32], r: usize) -> bool
-    requires { batch_words (r + 1) ≤ length batch.now }
-    ensures { result ≡ dvp_out_of_range batch.now r }
+#[tactic(auto, unfolding(model::specs::BatchChecks::dvp_out_of_range))]
+fn dvp_out_of_range(r: &Record) -> bool
+    ensures { result ≡ dvp_out_of_range r.now.batch.now r.now.index }
 {
-    (0 < bits(payload(record_word(batch, r, 3)), 5, 23)) | (DVP_AMOUNT_LIMIT < dvp_size(batch, r))
+    0 < bits(payload(r.word(3)), 5, 23) || DVP_AMOUNT_LIMIT < r.dvp_size()
 }
 
 // Row 27: its payload, and at its first word the DVP amount.
-fn out_of_range(batch: &[u32], r: usize, j: usize) -> bool
-    requires j_lt_record_words { j < record_words }
-    requires r_in_bounds { batch_words (r + 1) ≤ length batch.now }
-    ensures { result ≡ row27 batch.now (batch_words r + j) }
+#[tactic(auto, unfolding(model::specs::BatchChecks::out_of_range))]
+fn out_of_range(r: &Record, j: usize) -> bool
+    requires { j < record_words }
+    ensures { result ≡ out_of_range r.now.batch.now r.now.index j }
 {
-    (record_limit(j) < payload(record_word(batch, r, j))) | ((j == 3) & dvp_out_of_range(batch, r))
+    record_limit(j) < payload(r.word(j)) || (j == 3 && dvp_out_of_range(r))
+}
+
+// The DVP amount is minus zero.
+#[tactic(auto, unfolding(model::specs::BatchChecks::dvp_minus_zero))]
+fn dvp_minus_zero(r: &Record) -> bool
+    ensures { result ≡ dvp_minus_zero r.now.batch.now r.now.index }
+{
+    negative(r.word(3)) && r.dvp_size() == 0
 }
 
 // Row 28: at its first word the DVP amount.
-fn minus_zero(batch: &[u32], r: usize, j: usize) -> bool
-    requires j_lt_record_words { j < record_words }
-    requires r_in_bounds { batch_words (r + 1) ≤ length batch.now }
-    ensures { result ≡ row28 batch.now (batch_words r + j) }
+#[tactic(auto, unfolding(model::specs::BatchChecks::minus_zero))]
+fn minus_zero(r: &Record, j: usize) -> bool
+    requires { j < record_words }
+    ensures { result ≡ minus_zero r.now.batch.now r.now.index j }
 {
-    (j == 3) & ((negative(record_word(batch, r, 3)) == 1) & (dvp_size(batch, r) == 0))
+    j == 3 && dvp_minus_zero(r)
 }
 
 // The test of that row.
-fn has_fault(fault: BatchWordsFault, batch: &[u32], r: usize, j: usize) -> bool
-    requires j_lt_record_words { j < record_words }
-    requires r_in_bounds { batch_words (r + 1) ≤ length batch.now }
-    ensures { result ≡ row_of fault batch.now (batch_words r + j) }
+fn has_fault(fault: BatchWordsFault, r: &Record, j: usize) -> bool
+    requires { j < record_words }
+    ensures { result ≡ row_of fault r.now.batch.now (batch_words r.now.index + j) }
 {
     match fault {
-        BatchWordsFault::WrongKind => wrong_kind(batch, r, j),
-        BatchWordsFault::OutOfRange => out_of_range(batch, r, j),
-        BatchWordsFault::MinusZero => minus_zero(batch, r, j),
+        BatchWordsFault::WrongKind => wrong_kind(r, j),
+        BatchWordsFault::OutOfRange => out_of_range(r, j),
+        BatchWordsFault::MinusZero => minus_zero(r, j),
     }
 }
 
-// The first word of record r that it refuses, by its place there.
-fn first_in_record(fault: BatchWordsFault, batch: &[u32], r: usize) -> Found
-    requires { batch_words (r + 1) ≤ length batch.now }
-    ensures { result ≡ first_bad (λ j. row_of fault batch.now (batch_words r + j)) record_words }
+// The first word of a record that it refuses, by its place there.
+fn first_in_record(fault: BatchWordsFault, r: &Record) -> Option<usize>
+    ensures { result ≡ first_bad (λ j. row_of fault r.now.batch.now (batch_words r.now.index + j)) record_words }
 {
-    let mut j = 0;
-    while j < RECORD_WORDS {
-        if has_fault(fault, batch, r, j) {
-            return Found::At(j);
-        }
-        j += 1;
-    }
-    Found::Nothing
+    (0..RECORD_WORDS).find(|&j| has_fault(fault, r, j))
 }
 
 // The first word of so many records that it refuses, by its index in the batch; none of those before record `from`.
-fn first_in_batch(fault: BatchWordsFault, batch: &[u32], from: usize, count: usize) -> Found
+#[tactic(auto, using(crate::specs::Scan::records, crate::specs::Scan::in_record))]
+fn first_in_batch(fault: BatchWordsFault, batch: &[u32], from: usize, count: usize) -> Option<usize>
     requires from_le_count { (from ≤ count) × (batch_words count ≤ length batch.now) }
-    requires from_value { first_bad (row_of fault batch.now) (batch_words from) ≡ Nothing }
+    requires from_value { first_bad (row_of fault batch.now) (batch_words from) ≡ None }
     ensures { result ≡ first_bad (row_of fault batch.now) (batch_words count) }
 {
-    let mut r = from;
-    while r < count {
-        if let Found::At(j) = first_in_record(fault, batch, r) {
-            return Found::At(1 + RECORD_WORDS * r + j);
+    for r in from..count {
+        if let Some(j) = first_in_record(fault, &Record::new(batch, r)) {
+            return Some(1 + RECORD_WORDS * r + j);
         }
-        r += 1;
     }
-    Found::Nothing
+    None
 }
 
 // The row over the whole batch.
-fn check_row(fault: BatchWordsFault, batch: &[u32], from: usize) -> Verdict
+fn check_row(fault: BatchWordsFault, batch: &[u32], from: usize) -> Result<(), Check>
     requires from_bound { (from ≤ record_count batch.now) × (length batch.now ≡ batch_words (record_count batch.now)) }
-    requires from_value { first_bad (row_of fault batch.now) (batch_words from) ≡ Nothing }
+    requires from_value { first_bad (row_of fault batch.now) (batch_words from) ≡ None }
     ensures { result ≡ word_row fault batch.now }
 {
-    let count = record_count(batch);
-    if let Found::At(i) = first_in_batch(fault, batch, from, count) {
-        return Verdict::Failed(Check::BatchWords(fault, i));
+    if let Some(i) = first_in_batch(fault, batch, from, record_count(batch)) {
+        return Err(Check::BatchWords(fault, i));
     }
-    Verdict::Passed
+    Ok(())
 }
 
 // The three rows, where no record before `from` is bad.
-fn check_rows(batch: &[u32], from: usize) -> Verdict
+#[tactic(auto, using(model::proofs::Verdicts::verdicts), unfolding(model::specs::BatchChecks::word_check))]
+fn check_rows(batch: &[u32], from: usize) -> Result<(), Check>
     requires from_bound { (from ≤ record_count batch.now) × (length batch.now ≡ batch_words (record_count batch.now)) }
-    requires from_value { first_bad (bad_record batch.now) from ≡ Nothing }
+    requires from_value { first_bad (bad_record batch.now) from ≡ None }
     ensures { result ≡ word_check batch.now }
 {
-    if let Verdict::Failed(k) = check_row(BatchWordsFault::WrongKind, batch, from) {
-        return Verdict::Failed(k);
-    }
-    if let Verdict::Failed(k) = check_row(BatchWordsFault::OutOfRange, batch, from) {
-        return Verdict::Failed(k);
-    }
+    check_row(BatchWordsFault::WrongKind, batch, from)?;
+    check_row(BatchWordsFault::OutOfRange, batch, from)?;
     check_row(BatchWordsFault::MinusZero, batch, from)
 }
 
 // The same in one pass over the records where none is bad.
-pub fn check_words(batch: &[u32]) -> Verdict
+pub fn check_words(batch: &[u32]) -> Result<(), Check>
     requires { length batch.now ≡ batch_words (record_count batch.now) }
     ensures { result ≡ word_check batch.now }
 {
-    let count = record_count(batch);
-    match first_bad_record(batch, count) {
-        Found::At(r) => check_rows(batch, r),
-        Found::Nothing => Verdict::Passed,
+    match first_bad_record(batch, record_count(batch)) {
+        Some(r) => check_rows(batch, r),
+        None => Ok(()),
     }
 }

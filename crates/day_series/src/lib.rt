@@ -1,72 +1,35 @@
 // Rows 15 to 17: the class, the order and the type of the series.
 #![tactic(auto)]
 
-ghost use Rattle.std.specs.Prelude.{◌≡◌, ◌≤◌, length};
-ghost use Rattle.numbers.specs.Scan.{first_bad};
-ghost use Rattle.model.specs.DayFile.{class_count, series_count, series_at, day_words};
-ghost use Rattle.model.specs.DayChecks.{row15, row16, row17, series_check};
+ghost use Rattle.std.specs.Prelude.{◌≡◌, length};
+ghost use Rattle.model.specs.Rows.{found_row};
+ghost use Rattle.model.specs.DayFile.{class_count, series_count, day_words};
+ghost use Rattle.model.specs.DayChecks.{series_check};
 
-use day_file::series_count;
-use model::{Check, SeriesFault, Verdict};
-use numbers::Found;
+use day_file::{Series, series_count};
+use model::{Check, SeriesFault};
 use series_rows::{bad_type, class_absent, out_of_order, present_numbers};
 
-fn first_class_absent(day: &[u32], count: usize) -> Found
-    requires { series_at day.now count ≤ length day.now }
-    ensures { result ≡ first_bad (row15 day.now) count }
+// A row over the series: refused at the first that was found.
+fn check_row(fault: SeriesFault, found: Option<usize>) -> Result<(), Check>
+    ensures { result ≡ found_row (Check.Series fault) found }
 {
-    let present = present_numbers(day);
-    let mut s = 0;
-    while s < count {
-        if class_absent(day, &present, s) {
-            return Found::At(s);
-        }
-        s += 1;
+    match found {
+        Some(s) => Err(Check::Series(fault, s)),
+        None => Ok(()),
     }
-    Found::Nothing
 }
 
-fn first_out_of_order(day: &[u32], count: usize) -> Found
-    requires { series_at day.now count ≤ length day.now }
-    ensures { result ≡ first_bad (row16 day.now) count }
-{
-    let mut s = 0;
-    while s < count {
-        if out_of_order(day, s) {
-            return Found::At(s);
-        }
-        s += 1;
-    }
-    Found::Nothing
-}
-
-fn first_bad_type(day: &[u32], count: usize) -> Found
-    requires { series_at day.now count ≤ length day.now }
-    ensures { result ≡ first_bad (row17 day.now) count }
-{
-    let mut s = 0;
-    while s < count {
-        if bad_type(day, s) {
-            return Found::At(s);
-        }
-        s += 1;
-    }
-    Found::Nothing
-}
-
-pub fn check_series(day: &[u32]) -> Verdict
+pub fn check_series(day: &[u32]) -> Result<(), Check>
     requires { length day.now ≡ day_words (class_count day.now) (series_count day.now) }
     ensures { result ≡ series_check day.now }
 {
     let count = series_count(day);
-    if let Found::At(s) = first_class_absent(day, count) {
-        return Verdict::Failed(Check::Series(SeriesFault::ClassAbsent, s));
-    }
-    if let Found::At(s) = first_out_of_order(day, count) {
-        return Verdict::Failed(Check::Series(SeriesFault::SeriesOrder, s));
-    }
-    if let Found::At(s) = first_bad_type(day, count) {
-        return Verdict::Failed(Check::Series(SeriesFault::BadType, s));
-    }
-    Verdict::Passed
+    let present = present_numbers(day);
+    let absent = (0..count).find(|&s| class_absent(&Series::new(day, s), &present));
+    check_row(SeriesFault::ClassAbsent, absent)?;
+    let disordered = (0..count).find(|&s| out_of_order(&Series::new(day, s)));
+    check_row(SeriesFault::SeriesOrder, disordered)?;
+    let mistyped = (0..count).find(|&s| bad_type(&Series::new(day, s)));
+    check_row(SeriesFault::BadType, mistyped)
 }

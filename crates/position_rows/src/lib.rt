@@ -1,51 +1,56 @@
 // Rows 23 to 26 of one record of a batch, for any day file.
 #![tactic(auto)]
 
-ghost use Rattle.std.specs.Prelude.{◌≡◌, ◌+◌, ◌≤◌, length};
-ghost use Rattle.model.specs.DayFile.{series_type};
-ghost use Rattle.model.specs.Batch.{place as place_of, batch_words};
+ghost use Rattle.std.specs.Prelude.{◌≡◌};
+ghost use Rattle.model.specs.DayFile.{series_type, is_option, is_security};
+ghost use Rattle.model.specs.Batch.{place};
 ghost use Rattle.model.specs.BatchChecks.{row23, row24, row25, row26};
 
-use batch::{dvp_size, exercised, fail, place};
+use batch::Record;
 use day_file::{series_count, series_type_at};
-use series_types::{is_option, is_security};
 
-// The type of the series of record r.
-fn type_of(day: &[u32], batch: &[u32], r: usize) -> u32
-    requires { batch_words (r + 1) ≤ length batch.now }
-    ensures { result ≡ series_type day.now (place_of batch.now r) }
+// The series of a record is a call or a put.
+fn names_option(day: &[u32], r: &Record) -> bool
+    ensures { result ≡ is_option (series_type day.now (place r.now.batch.now r.now.index)) }
 {
-    series_type_at(day, place(batch, r))
+    series_type_at(day, r.place()).is_ok_and(|t| t.is_option())
 }
 
-// Row 23 of record r: its series place is not below S.
-pub fn series_absent(day: &[u32], batch: &[u32], r: usize) -> bool
-    requires { batch_words (r + 1) ≤ length batch.now }
-    ensures { result ≡ row23 day.now batch.now r }
+// The series of a record is a security.
+fn names_security(day: &[u32], r: &Record) -> bool
+    ensures { result ≡ is_security (series_type day.now (place r.now.batch.now r.now.index)) }
 {
-    series_count(day) <= place(batch, r)
+    series_type_at(day, r.place()).is_ok_and(|t| t.is_security())
 }
 
-// Row 24 of record r: bit 8 on a non-option.
-pub fn exercised_non_option(day: &[u32], batch: &[u32], r: usize) -> bool
-    requires { batch_words (r + 1) ≤ length batch.now }
-    ensures { result ≡ row24 day.now batch.now r }
+// Row 23 of a record: its series place is not below S.
+#[tactic(auto, unfolding(model::specs::BatchChecks::row23))]
+pub fn series_absent(day: &[u32], r: &Record) -> bool
+    ensures { result ≡ row23 day.now r.now.batch.now r.now.index }
 {
-    (exercised(batch, r) == 1) & !is_option(type_of(day, batch, r))
+    series_count(day) <= r.place()
 }
 
-// Row 25 of record r: bit 9 on a non-security.
-pub fn fail_non_security(day: &[u32], batch: &[u32], r: usize) -> bool
-    requires { batch_words (r + 1) ≤ length batch.now }
-    ensures { result ≡ row25 day.now batch.now r }
+// Row 24 of a record: bit 8 on a non-option.
+#[tactic(auto, unfolding(model::specs::BatchChecks::row24))]
+pub fn exercised_non_option(day: &[u32], r: &Record) -> bool
+    ensures { result ≡ row24 day.now r.now.batch.now r.now.index }
 {
-    (fail(batch, r) == 1) & !is_security(type_of(day, batch, r))
+    r.is_exercised() && !names_option(day, r)
 }
 
-// Row 26 of record r: DVP not 0 on a non-security.
-pub fn dvp_non_security(day: &[u32], batch: &[u32], r: usize) -> bool
-    requires { batch_words (r + 1) ≤ length batch.now }
-    ensures { result ≡ row26 day.now batch.now r }
+// Row 25 of a record: bit 9 on a non-security.
+#[tactic(auto, unfolding(model::specs::BatchChecks::row25))]
+pub fn fail_non_security(day: &[u32], r: &Record) -> bool
+    ensures { result ≡ row25 day.now r.now.batch.now r.now.index }
 {
-    (0 < dvp_size(batch, r)) & !is_security(type_of(day, batch, r))
+    r.is_fail() && !names_security(day, r)
+}
+
+// Row 26 of a record: DVP not 0 on a non-security.
+#[tactic(auto, unfolding(model::specs::BatchChecks::row26))]
+pub fn dvp_non_security(day: &[u32], r: &Record) -> bool
+    ensures { result ≡ row26 day.now r.now.batch.now r.now.index }
+{
+    0 < r.dvp_size() && !names_security(day, r)
 }

@@ -11,19 +11,19 @@ use Rattle.std.proofs.Common.{◌∙◌}
 
 pub check_rows-requires-clause-from_bound : goal.check_rows-requires-clause-from_bound
 check_rows-requires-clause-from_bound c =
-    let found = sym c.first_bad_record.ensures ∙ c.in-At.is in
+    let found = sym c.first_bad_record.ensures ∙ c.in-Some.is in
     let l = (first_at _ _ _ found).0 in
     let h = first-front _ _ _ found in
     search rules
 
 pub check_rows-requires-clause-from_value : goal.check_rows-requires-clause-from_value
 check_rows-requires-clause-from_value c =
-    let found = sym c.first_bad_record.ensures ∙ c.in-At.is in
+    let found = sym c.first_bad_record.ensures ∙ c.in-Some.is in
     let l = (first_at _ _ _ found).0 in
     let h = first-front _ _ _ found in
     search rules
 
-pub returns-in-Nothing : goal.returns-in-Nothing
-returns-in-Nothing c =
+pub returns-in-None : goal.returns-in-None
+returns-in-None c =
     let s = c.args in
-    sym (words_pass s.batch.now (ap (first_bad (bad_record s.batch.now)) (sym c.record_count-count.ensures) ∙ sym c.first_bad_record.ensures ∙ c.in-Nothing.is))
+    sym (words_pass s.batch.now (ap (first_bad (bad_record s.batch.now)) (sym c.record_count.ensures) ∙ sym c.first_bad_record.ensures ∙ c.in-None.is))

@@ -1,12 +1,10 @@
-use Rattle.std.proofs.Common.{rules}
+use Rattle.std.proofs.Common.{rules, refl, ◌+◌}
+use Rattle.numbers.specs.Finding.{find_below}
+use Rattle.model.specs.Batch.{batch_words}
+use Rattle.model.specs.BatchChecks.{row_of}
 use Rattle.batch_words.proofs.first_in_record.Goals as goal
-use Rattle.numbers.specs.Scan.{scan}
 
-pub loop-j-init : goal.loop-j-init
-loop-j-init c = search (scan, rules)
-
-pub returns-then-has_fault : goal.returns-then-has_fault
-returns-then-has_fault c = search (scan, rules)
-
-pub loop-j-preserved : goal.loop-j-preserved
-loop-j-preserved c = search (scan, rules)
+pub returns : goal.returns
+returns c =
+    let a = c.args.r.now in
+    find_below _ (λ j. row_of c.args.fault a.batch.now (batch_words a.index + j)) c.find.ensures.ran (λ x v q k. search rules) refl

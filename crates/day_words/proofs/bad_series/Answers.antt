@@ -1,6 +1,16 @@
-use Rattle.model.specs.DayChecks.{bad_series}
+use Rattle.std.proofs.Common.{rules, refl}
+use Rattle.numbers.specs.Finding.{any_in}
+use Rattle.model.specs.DayChecks.{bad_series_word, bad_series}
 use Rattle.day_words.proofs.bad_series.Goals as goal
 
-pub returns : goal.returns
+pub returns-then-any : goal.returns-then-any
 unfolding bad_series
-returns c = rw (c.any_bad_series_word.ensures, c.multiplier.ensures)
+returns-then-any c =
+    let a = c.args.series.now in
+    rw (← any_in _ (bad_series_word a.day.now a.place) c.any.ensures.ran (λ x v q k. search rules) refl, c.if-any.true)
+
+pub returns-else-any : goal.returns-else-any
+unfolding bad_series
+returns-else-any c =
+    let a = c.args.series.now in
+    rw (← any_in _ (bad_series_word a.day.now a.place) c.any.ensures.ran (λ x v q k. search rules) refl, c.if-any.false, c.multiplier.ensures)

@@ -1,12 +1,7 @@
-use Rattle.std.proofs.Common.{rules}
+use Rattle.std.proofs.Common.{rules, refl}
+use Rattle.numbers.specs.Finding.{find_below}
+use Rattle.model.specs.DayChecks.{row12}
 use Rattle.day_words.proofs.first_bad_record.Goals as goal
-use Rattle.numbers.specs.Scan.{scan}
 
-pub loop-i-init : goal.loop-i-init
-loop-i-init c = search (scan, rules)
-
-pub returns-then-bad_record : goal.returns-then-bad_record
-returns-then-bad_record c = search (scan, rules)
-
-pub loop-i-preserved : goal.loop-i-preserved
-loop-i-preserved c = search (scan, rules)
+pub returns : goal.returns
+returns c = find_below _ (row12 c.args.day.now) c.find.ensures.ran (λ x v q k. search rules) refl

@@ -20,24 +20,17 @@ bounds-nets-k c =
     let b = c.args.batch.now in
     omega (arith, c.key-k.ensures, ap length c.requires.nets_value, length-tabulate position_count (net (b)))
 
-pub size-contracts-requires : goal.size-contracts-requires
-size-contracts-requires c =
-    let b = c.args.batch.now in
-    let r = c.args.r in
-    let entry : to_z w64 (of_z w64 (get_or c.args.nets.now c.key-k.result (pos 0))) ≡ net b (key b r) = net_read b c.args.nets.now c.key-k.result r c.requires.limited c.requires.nets_value c.key-k.ensures in
-    rw (entry) (omega (arith, net_limit_lem (b) c.requires.limited (key (b) (r))))
-
 pub overflow_mul-contracts : goal.overflow_mul-contracts
 overflow_mul-contracts c =
     let d = c.args.day.now in
     let b = c.args.batch.now in
     let r = c.args.r in
     let entry : to_z w64 (of_z w64 (get_or c.args.nets.now c.key-k.result (pos 0))) ≡ net b (key b r) = net_read b c.args.nets.now c.key-k.result r c.requires.limited c.requires.nets_value c.key-k.ensures in
-    let size_is : c.size-contracts.result ≡ nat_abs (net (b) (key (b) (r))) = c.size-contracts.ensures.0 ∙ ap nat_abs (entry) in
+    let size_is : c.unsigned_abs-contracts.result ≡ nat_abs (net (b) (key (b) (r))) = c.unsigned_abs-contracts.ensures.value ∙ ap nat_abs (entry) in
     let placed : c.key-k.result % places ≡ place b r = omega (arith, c.key-k.ensures) in
-    let wide_is : c.wide-per_contract.result ≡ multiplier (d) (place (b) (r)) = c.wide-per_contract.ensures ∙ c.multiplier.ensures ∙ ap (multiplier (d)) (placed) in
+    let wide_is : c.from.result ≡ multiplier (d) (place (b) (r)) = c.from.ensures ∙ c.multiplier.ensures ∙ ap (multiplier (d)) (placed) in
     let h = mul-le-mul (net_limit_lem (b) c.requires.limited (key (b) (r))) (few (series_word (d) (place (b) (r)) 1)) in
-    let e : c.size-contracts.result * c.wide-per_contract.result ≡ nat_abs (net (b) (key (b) (r))) * multiplier (d) (place (b) (r)) = λ i. size_is i * wide_is i in
+    let e : c.unsigned_abs-contracts.result * c.from.result ≡ nat_abs (net (b) (key (b) (r))) * multiplier (d) (place (b) (r)) = λ i. size_is i * wide_is i in
     record { fits = omega (arith, h, e) }
 
 pub returns : goal.returns
@@ -46,8 +39,8 @@ returns c =
     let b = c.args.batch.now in
     let r = c.args.r in
     let entry : to_z w64 (of_z w64 (get_or c.args.nets.now c.key-k.result (pos 0))) ≡ net b (key b r) = net_read b c.args.nets.now c.key-k.result r c.requires.limited c.requires.nets_value c.key-k.ensures in
-    let size_is : c.size-contracts.result ≡ nat_abs (net (b) (key (b) (r))) = c.size-contracts.ensures.0 ∙ ap nat_abs (entry) in
+    let size_is : c.unsigned_abs-contracts.result ≡ nat_abs (net (b) (key (b) (r))) = c.unsigned_abs-contracts.ensures.value ∙ ap nat_abs (entry) in
     let d = c.args.day.now in
     let placed : c.key-k.result % places ≡ place b r = omega (arith, c.key-k.ensures) in
-    let wide_is : c.wide-per_contract.result ≡ multiplier (d) (place (b) (r)) = c.wide-per_contract.ensures ∙ c.multiplier.ensures ∙ ap (multiplier (d)) (placed) in
+    let wide_is : c.from.result ≡ multiplier (d) (place (b) (r)) = c.from.ensures ∙ c.multiplier.ensures ∙ ap (multiplier (d)) (placed) in
     c.position_too_large.ensures ∙ (λ i. ltb position_limit (size_is i * wide_is i))
