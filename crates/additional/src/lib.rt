@@ -33,7 +33,7 @@ fn after_offset(o: u32, amount: i64) -> i64
     ensures { result ≡ after_offset o amount }
 {
     if amount < 0 {
-        return 0 - left(words::size(amount), words::wide(o)) as i64;
+        return -(left(amount.unsigned_abs(), u64::from(o)) as i64);
     }
     amount
 }
@@ -45,11 +45,8 @@ pub fn offset(points: Points, o: u32) -> Points
     ensures { result.at ≡ tabulate point_count (λ k. after_offset o (get_or points.at k (pos 0))) }
 {
     let mut next = points;
-    let mut k: usize = 0;
-    while k < Points::COUNT {
-        let was = next.at[k];
-        next.at[k] = after_offset(o, was);
-        k = k + 1;
+    for k in 0..Points::COUNT {
+        next.at[k] = after_offset(o, next.at[k]);
     }
     next
 }
@@ -61,12 +58,8 @@ pub fn plus(points: Points, more: Points) -> Points
     ensures { result.at ≡ tabulate point_count (λ k. get_or points.at k (pos 0) +ℤ get_or more.at k (pos 0)) }
 {
     let mut next = points;
-    let mut k: usize = 0;
-    while k < Points::COUNT {
-        let was = next.at[k];
-        let amount = more.at[k];
-        next.at[k] = amounts::add(was, amount);
-        k = k + 1;
+    for k in 0..Points::COUNT {
+        next.at[k] += more.at[k];
     }
     next
 }
@@ -76,11 +69,8 @@ pub fn largest(points: Points) -> i64
     ensures { result ≡ largest_of point_count (λ k. get_or points.at k (pos 0)) }
 {
     let mut most: i64 = 0;
-    let mut k: usize = 0;
-    while k < Points::COUNT {
-        let amount = points.at[k];
-        most = amounts::larger(most, amount);
-        k = k + 1;
+    for amount in points.at {
+        most = most.max(amount);
     }
     most
 }

@@ -1,13 +1,13 @@
 // The map of a book: bit g set if group g has a line.
 ghost use Rattle.std.specs.Prelude.{◌≡◌, cond, ◌+◌, ◌^◌, ◌<◌};
-ghost use Rattle.model.specs.Report.{book_map};
-ghost use Rattle.classes.specs.Starts.{start_table};
-ghost use Rattle.classes.specs.Tables.{entry};
-ghost use Rattle.model.proofs.Accepted.{DayRows};
+ghost use Rattle.numbers.specs.Table.{entry};
 ghost use Rattle.model.specs.Limits.{group_count};
+ghost use Rattle.model.specs.Report.{book_map};
+ghost use Rattle.positions.specs.Books.{book_number};
 
-use classes::starts::STARTS;
+use classes::day::CheckedDay;
 use day_file::GROUPS;
+use positions::Book;
 use presence::groups_held;
 
 // The map with bit g of value `bit`, if it is set.
@@ -15,32 +15,18 @@ fn with_bit(map: u32, bit: u32, set: bool) -> u32
     requires { (map < 2 ^ group_count) × (bit < 2 ^ group_count) }
     ensures { result ≡ map + cond set bit 0 }
 {
-    if set {
-        return map + bit;
-    }
-    map
+    if set { map + bit } else { map }
 }
 
-pub fn book_map(
-    day: &[u32],
-    starts: &[usize; STARTS],
-    nets: &[i64],
-    dvps: &[i64],
-    book: usize,
-) -> u32
-    requires day_rows { DayRows day.now }
-    requires book_bound { book < 2 }
-    requires starts_value { starts.now ≡ start_table day.now }
-    ensures { (result ≡ book_map day.now (entry nets.now) (entry dvps.now) book) × (result < 2 ^ group_count) }
+pub fn book_map(day: &CheckedDay, nets: &[i64], dvps: &[i64], book: Book) -> u32
+    ensures { (result ≡ book_map day.now.words.now (entry nets.now) (entry dvps.now) (book_number book)) × (result < 2 ^ group_count) }
 {
-    let held = groups_held(day, starts, nets, dvps, book);
+    let held = groups_held(day, nets, dvps, book);
     let mut map: u32 = 0;
     let mut bit: u32 = 1;
-    let mut g: usize = 0;
-    while g < GROUPS {
+    for g in 0..GROUPS {
         map = with_bit(map, bit, held[g]);
-        bit = bit * 2;
-        g = g + 1;
+        bit *= 2;
     }
     map
 }

@@ -1,21 +1,19 @@
 -- The series of a class stand together: from `start_of d c` up to `start_of d (c + 1)`. Sums and scans over a class run over this range alone.
-use Rattle.std.specs.Prelude.{◌≡◌, refl, Bool, true, false, ◌&&◌, cond, List, ℕ, ◌+◌, ◌≤◌, ◌<◌, leb, ℤ, pos, ◌+ℤ◌}
+use Rattle.std.specs.Prelude.{◌≡◌, refl, Bool, true, false, ◌&&◌, cond, List, ℕ, ◌+◌, ◌≤◌, ◌<◌, leb, ℤ, pos, ◌+ℤ◌, Option, Some, None, unwrap_or}
 use Rattle.std.proofs.Common.{sym, ap, ◌∙◌, le_refl, arith, eq-eqb, ne_eqb, leb-true, leb-false}
 use Rattle.std.proofs.Math.Decide.{dec_le}
 use Rattle.numbers.specs.Tests.{and_out, and_in}
-use Rattle.numbers.specs.declared.Found.{Found}
-use Rattle.numbers.specs.declared.Found.TheVariants.{At, Nothing}
 use Rattle.numbers.specs.Scan.{first_bad, first_where, first_at, first-before, first_clear, first-none}
 use Rattle.numbers.specs.Sums.{sum_where, sum_to_more, sum_where-none}
 use Rattle.numbers.specs.Stretch.{sum_where_same, first_same}
-use Rattle.model.specs.DayFile.{class_count, series_count, series_class, place_or}
+use Rattle.model.specs.DayFile.{class_count, series_count, series_class}
 use Rattle.model.specs.Steps.Classes.{of_class}
 use Rattle.model.proofs.Accepted.{DayRows}
 use Rattle.model.proofs.Together.{class_order}
 
 -- the first series of class c or a later one; past the last series where there is none
 unfoldable pub start_of : List ℕ → ℕ → ℕ
-start_of d c = place_or (first_where (λ s. leb c (series_class d s)) (series_count d)) (series_count d)
+start_of d c = unwrap_or (first_where (λ s. leb c (series_class d s)) (series_count d)) (series_count d)
 
 -- the series below a are of classes below c, the others are not
 pub record Cut (d : List ℕ) (c a : ℕ) : Type 0 where
@@ -27,15 +25,15 @@ pub cut : (d : List ℕ) → DayRows d → (c : ℕ) → Cut d c (start_of d c)
 unfolding start_of
 cut d r c = by (first_bad (λ s. leb c (series_class d s)) (series_count d)) refl
   where
-    by : (f : Found) → first_bad (λ s. leb c (series_class d s)) (series_count d) ≡ f → Cut d c (place_or f (series_count d))
-    by (At i) e =
+    by : (f : Option ℕ) → first_bad (λ s. leb c (series_class d s)) (series_count d) ≡ f → Cut d c (unwrap_or f (series_count d))
+    by (Some i) e =
         let z = first_at (λ s. leb c (series_class d s)) (series_count d) i e in
         record {
           end = omega (arith, z.0);
           below = λ s h. leb-false c (series_class d s) (first-before (λ s. leb c (series_class d s)) (series_count d) i e s h);
           above = λ s h l. omega (arith, leb-true c (series_class d i) z.1, class_order d r i s h l);
         }
-    by Nothing e =
+    by None e =
         record {
           end = le_refl (series_count d);
           below = λ s h. leb-false c (series_class d s) (first_clear (λ s. leb c (series_class d s)) (series_count d) e s h);
@@ -87,10 +85,10 @@ module _ (d : List ℕ) (c a b : ℕ) (r : Range d c a b) (t u : ℕ → Bool)
   pub sum_end : (f : ℕ → ℤ) → sum_where b t f ≡ sum_where (series_count d) t f
   sum_end f = sum_where_same t b f (series_count d) r.end (λ s p q. out s (r.after s p q))
 
-  pub scan_start : first_bad t a ≡ Nothing
+  pub scan_start : first_bad t a ≡ None
   scan_start = first-none t a (λ s h. out s (r.before s h))
 
-  pub scan_end : first_bad t b ≡ Nothing → first_bad t (series_count d) ≡ Nothing
+  pub scan_end : first_bad t b ≡ None → first_bad t (series_count d) ≡ None
   scan_end h = first_same t b (series_count d) r.end h (λ s p q. out s (r.after s p q))
 
 -- ---- the tests of the model: of the class, and a test of the series

@@ -1,7 +1,6 @@
 -- The one deposit of a class, found by the class's number.
-use Rattle.std.specs.Prelude.{◌≡◌, Bool, ◌⊎◌, List, ℕ, ◌<◌, eqb}
+use Rattle.std.specs.Prelude.{◌≡◌, Bool, ◌⊎◌, List, ℕ, ◌<◌, eqb, None}
 use Rattle.std.proofs.Common.{sym, ap, ◌∙◌, true≢false, inl, inr, eq-eqb}
-use Rattle.numbers.specs.declared.Found.TheVariants.{Nothing}
 use Rattle.numbers.specs.Scan.{first_bad, first_clear}
 use Rattle.model.specs.DayFile.{class_count, class_number, class_place}
 use Rattle.model.specs.Deposits.{deposit_count, named_number, shares, shares_of}
@@ -18,7 +17,7 @@ module _ (d x : List ℕ) (r : DepositRows d x) (days : DayRows d) (c : ℕ) (h 
   pub deposit_hit : (i : ℕ) → i < deposit_count x → named_number x i ≡ class_number d c → shares x i ≡ shares_of d x c
   deposit_hit i l e = sym (shares_named d x r i l) ∙ ap (shares_of d x) (ap (class_place d) e ∙ class_place_lem d days c h)
 
-  pub deposit_none : first_bad (names d x c) (deposit_count x) ≡ Nothing → 0 ≡ shares_of d x c
+  pub deposit_none : first_bad (names d x c) (deposit_count x) ≡ None → 0 ≡ shares_of d x c
   deposit_none e = by (named_or_none d x r c)
     where
       by : ((i : ℕ) × (i < deposit_count x) × (class_place d (named_number x i) ≡ c)) ⊎ (shares_of d x c ≡ 0) → 0 ≡ shares_of d x c

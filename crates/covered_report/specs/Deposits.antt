@@ -2,8 +2,8 @@
 use Rattle.std.specs.Prelude.{◌≡◌, refl, List, [], ◌∷◌, ℕ, ℤ, length}
 use Rattle.std.proofs.Common.{sym, ap, ◌∙◌, arith}
 use Rattle.numbers.specs.Table.{tabulate}
-use Rattle.model.specs.declared.Answer.{Answer}
-use Rattle.model.specs.declared.Verdict.{Verdict}
+use Rattle.model.specs.Outcomes.{Answer}
+use Rattle.model.specs.Outcomes.{Verdict}
 use Rattle.model.specs.Calls.{answer_of}
 use Rattle.model.specs.DepositChecks.{deposit_check}
 use Rattle.model.specs.Netting.{position_count}

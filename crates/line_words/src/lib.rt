@@ -5,9 +5,11 @@ ghost use Rattle.std.specs.Prelude.{◌≡◌, ◌∷◌, ◌+◌, ◌*◌, ◌^
 ghost use Rattle.numbers.specs.Put.{put};
 ghost use Rattle.model.specs.Words.{word, amount_words};
 ghost use Rattle.model.specs.Report.{words_of_amounts};
+ghost use Rattle.words.specs.Kinds.{kind_number};
 ghost use Rattle.line_words.specs.Amounts.{Small};
 
 use day_file::GROUPS;
+use words::Kind;
 
 // The words of a line.
 pub const LINE_WORDS: usize = 19;
@@ -23,9 +25,12 @@ fn write_amount(out: &mut [u32], at: usize, z: i64)
     requires { (at + 3 ≤ length out.old) × (nat_abs z < 2 ^ 63) }
     ensures { out.new ≡ put at (amount_words z) out.old }
 {
-    out[at] = words::high_word(z);
-    out[at + 1] = words::middle_word(z);
-    out[at + 2] = words::low_word(z);
+    let words = [
+        words::high_word(z),
+        words::middle_word(z),
+        words::low_word(z),
+    ];
+    out[at..at + 3].copy_from_slice(&words);
 }
 
 // Amounts one behind the other.
@@ -33,28 +38,17 @@ fn write_amounts(out: &mut [u32], at: usize, amounts: &[i64])
     requires { (at + 3 * length amounts.now ≤ length out.old) × Small amounts.now }
     ensures { out.new ≡ put at (words_of_amounts amounts.now) out.old }
 {
-    let mut i: usize = 0;
-    while i < amounts.len() {
-        write_amount(out, at + 3 * i, amounts[i]);
-        i = i + 1;
+    for (i, z) in amounts.iter().enumerate() {
+        write_amount(out, at + 3 * i, *z);
     }
 }
 
-// A word of a kind, and amounts behind it: a line (kind 2, its key) or the totals (kind 7).
-fn write_headed(out: &mut [u32], kind: u32, payload: u32, amounts: &[i64])
-    requires kind_bound { (kind < 8) × (payload < 2 ^ 29) }
-    requires amounts_in_bounds { (1 + 3 * length amounts.now ≤ length out.old) × Small amounts.now }
-    ensures { out.new ≡ put 0 (word kind payload ∷ words_of_amounts amounts.now) out.old }
-{
-    out[0] = kind * 536870912 + payload;
-    write_amounts(out, 1, amounts);
-}
-
-// The same from word `at` on, through the part of the memory that begins there.
-pub fn write_headed_at(memory: &mut [u32], at: usize, kind: u32, payload: u32, amounts: &[i64])
-    requires kind_bound { (kind < 8) × (payload < 2 ^ 29) }
+// A word of a kind, and amounts behind it, from word `at` on: a line (its key) or the totals.
+pub fn write_headed_at(memory: &mut [u32], at: usize, kind: Kind, payload: u32, amounts: &[i64])
+    requires payload_bound { payload < 2 ^ 29 }
     requires amounts_in_bounds { (at + (1 + 3 * length amounts.now) ≤ length memory.old) × Small amounts.now }
-    ensures { memory.new ≡ put at (word kind payload ∷ words_of_amounts amounts.now) memory.old }
+    ensures { memory.new ≡ put at (word (kind_number kind) payload ∷ words_of_amounts amounts.now) memory.old }
 {
-    write_headed(&mut memory[at..], kind, payload, amounts);
+    memory[at] = words::word(kind, payload);
+    write_amounts(memory, at + 1, amounts);
 }

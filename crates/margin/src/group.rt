@@ -1,16 +1,15 @@
 // What a group has before the larger of additional and minimum is taken: its classes' amounts added.
 ghost use Rattle.std.specs.Prelude.{◌≡◌, ◌+◌, ◌<◌};
 ghost use Rattle.model.specs.DayFile.{class_count};
-ghost use Rattle.model.proofs.Records.{Budget};
-ghost use Rattle.classes.specs.Tables.{entry, Given};
-ghost use Rattle.classes.specs.Range.{Range};
-ghost use Rattle.classes.specs.Starts.{start_table};
-ghost use Rattle.margin.specs.Groups.{Small, no_amounts, added, class_amounts, amounts_below};
 ghost use Rattle.model.specs.Limits.{group_count};
+ghost use Rattle.positions.specs.Books.{book_number};
+ghost use Rattle.holdings.specs.Seen.{day_of, net_of, dvp_of, class_day, class_net, class_dvp, class_book};
+ghost use Rattle.margin.specs.Groups.{Small, no_amounts, added, class_amounts, amounts_below};
 
 use accumulator::Points;
-use classes::starts::STARTS;
+use holdings::{ClassHoldings, Holdings};
 use points::class_points;
+use positions::Book;
 
 #[derive(Drop)]
 pub struct Amounts {
@@ -22,30 +21,18 @@ pub struct Amounts {
 }
 
 // The amounts of a class, its points after its offset.
-fn class_amounts(
-    day: &[u32],
-    nets: &[i64],
-    dvps: &[i64],
-    book: usize,
-    c: usize,
-    a: usize,
-    b: usize,
-) -> Amounts
-    requires given { Given day.now nets.now }
-    requires budget { Budget day.now (entry nets.now) (entry dvps.now) }
-    requires book_bound { book < 2 }
-    requires range { Range day.now c a b }
-    ensures { result ≡ class_amounts day.now (entry nets.now) (entry dvps.now) book c }
+fn class_amounts(class: &ClassHoldings) -> Amounts
+    ensures { result ≡ class_amounts (class_day class.now) (class_net class.now) (class_dvp class.now) (class_book class.now) class.now.class }
 {
-    let sides = spread::sides::total_sides(day, nets, book, c, a, b);
+    let sides = spread::sides::total_sides(class);
     let quantity = amounts::smaller(sides.long, sides.short);
-    let whole = class_points::class_points(day, nets, book, c, a, b, quantity);
-    let after = additional::offset(whole, day_file::offset(day, c));
+    let whole = class_points::class_points(class, quantity);
+    let after = additional::offset(whole, class.class().offset());
     Amounts {
-        spread: spread::amount::spread(day, nets, book, c, a, b, quantity),
-        mtm: mtm::mtm(day, nets, dvps, book, c, a, b),
-        premium: premium::premium(day, nets, book, c, a, b),
-        minimum: minimum::minimum(day, nets, book, c, a, b),
+        spread: spread::amount::spread(class, quantity),
+        mtm: mtm::mtm(class),
+        premium: premium::premium(class),
+        minimum: minimum::minimum(class),
         points: after,
     }
 }
@@ -84,52 +71,29 @@ impl Amounts {
 }
 
 // The amounts of the classes of group g below c, with class c if it is of the group.
-fn add_class(
-    sum: Amounts,
-    day: &[u32],
-    starts: &[usize; STARTS],
-    nets: &[i64],
-    dvps: &[i64],
-    book: usize,
-    g: usize,
-    c: usize,
-) -> Amounts
-    requires given { Given day.now nets.now }
-    requires budget { Budget day.now (entry nets.now) (entry dvps.now) }
-    requires book_bound { (book < 2) × (g < group_count) × (c < class_count day.now) }
-    requires starts_value { starts.now ≡ start_table day.now }
-    requires sum_value { sum ≡ amounts_below day.now (entry nets.now) (entry dvps.now) book g c }
-    ensures { result ≡ amounts_below day.now (entry nets.now) (entry dvps.now) book g (c + 1) }
+fn add_class(sum: Amounts, account: &Holdings, book: Book, g: usize, c: usize) -> Amounts
+    requires g_bound { (g < group_count) × (c < class_count (day_of account.now)) }
+    requires sum_value { sum ≡ amounts_below (day_of account.now) (net_of account.now) (dvp_of account.now) (book_number book) g c }
+    ensures { result ≡ amounts_below (day_of account.now) (net_of account.now) (dvp_of account.now) (book_number book) g (c + 1) }
 {
-    if day_file::group(day, c) != g {
+    if account.day.class(c).group() != g {
         return sum;
     }
-    let a = starts[c];
-    let b = starts[c + 1];
-    sum.add(class_amounts(day, nets, dvps, book, c, a, b))
+    sum.add(class_amounts(&ClassHoldings {
+        account,
+        book,
+        class: c,
+    }))
 }
 
 // The amounts of group g.
-pub fn group_amounts(
-    day: &[u32],
-    starts: &[usize; STARTS],
-    nets: &[i64],
-    dvps: &[i64],
-    book: usize,
-    g: usize,
-) -> Amounts
-    requires given { Given day.now nets.now }
-    requires budget { Budget day.now (entry nets.now) (entry dvps.now) }
-    requires book_bound { (book < 2) × (g < group_count) }
-    requires starts_value { starts.now ≡ start_table day.now }
-    ensures { result ≡ amounts_below day.now (entry nets.now) (entry dvps.now) book g (class_count day.now) }
+pub fn group_amounts(account: &Holdings, book: Book, g: usize) -> Amounts
+    requires { g < group_count }
+    ensures { result ≡ amounts_below (day_of account.now) (net_of account.now) (dvp_of account.now) (book_number book) g (class_count (day_of account.now)) }
 {
-    let classes = day_file::class_count(day);
     let mut sum = Amounts::new();
-    let mut c: usize = 0;
-    while c < classes {
-        sum = add_class(sum, day, starts, nets, dvps, book, g, c);
-        c = c + 1;
+    for c in 0..account.day.class_count() {
+        sum = add_class(sum, account, book, g, c);
     }
     sum
 }

@@ -2,15 +2,14 @@
 ghost use Rattle.std.specs.Prelude.{◌≡◌, [], ◌∷◌, ◌≤◌, ◌<◌, pos, nat_abs, ◌+ℤ◌, get_or};
 ghost use Rattle.numbers.specs.Extremes.{max_z, largest};
 ghost use Rattle.model.specs.Steps.Margin.{line_amounts};
-ghost use Rattle.model.proofs.Accepted.{DayRows};
-ghost use Rattle.model.proofs.Records.{Budget};
 ghost use Rattle.model.specs.Limits.{mtm_limit, spread_limit, worth_limit, point_count, group_count};
-ghost use Rattle.classes.specs.Tables.{entry};
-ghost use Rattle.classes.specs.Starts.{start_table};
+ghost use Rattle.positions.specs.Books.{book_number};
+ghost use Rattle.holdings.specs.Seen.{day_of, net_of, dvp_of};
 
 use crate::group;
 use accumulator::Points;
-use classes::starts::STARTS;
+use holdings::Holdings;
+use positions::Book;
 
 #[derive(Drop)]
 pub struct Line {
@@ -41,21 +40,11 @@ fn group_sum(spread: i64, mtm: i64, premium: i64, requirement: i64) -> i64
 }
 
 // The line of group g: margin is the group sum if positive, residual credit its negative if negative.
-pub fn group_line(
-    day: &[u32],
-    starts: &[usize; STARTS],
-    nets: &[i64],
-    dvps: &[i64],
-    book: usize,
-    g: usize,
-) -> Line
-    requires day_rows { DayRows day.now }
-    requires budget { Budget day.now (entry nets.now) (entry dvps.now) }
-    requires book_bound { (book < 2) × (g < group_count) }
-    requires starts_value { starts.now ≡ start_table day.now }
-    ensures { (result.spread ∷ result.mtm ∷ result.premium ∷ result.requirement ∷ result.margin ∷ result.residual ∷ []) ≡ line_amounts day.now (entry nets.now) (entry dvps.now) book g }
+pub fn group_line(account: &Holdings, book: Book, g: usize) -> Line
+    requires { g < group_count }
+    ensures { (result.spread ∷ result.mtm ∷ result.premium ∷ result.requirement ∷ result.margin ∷ result.residual ∷ []) ≡ line_amounts (day_of account.now) (net_of account.now) (dvp_of account.now) (book_number book) g }
 {
-    let sums = group::group_amounts(day, starts, nets, dvps, book, g);
+    let sums = group::group_amounts(account, book, g);
     let points = sums.points;
     let requirement = additional_requirement(points, sums.minimum);
     let total = group_sum(sums.spread, sums.mtm, sums.premium, requirement);

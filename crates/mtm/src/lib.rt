@@ -4,49 +4,33 @@
 ghost use Rattle.std.specs.Prelude.{◌≡◌, cond, ◌<◌, pos};
 ghost use Rattle.model.specs.DayFile.{series_count, series_type, is_security};
 ghost use Rattle.model.specs.Steps.Mtm.{mtm_of, mtm as mtm_sum};
-ghost use Rattle.model.proofs.Records.{Budget};
-ghost use Rattle.classes.specs.Tables.{entry, Given};
-ghost use Rattle.classes.specs.Range.{Range};
+ghost use Rattle.holdings.specs.Seen.{class_day, class_net, class_dvp, class_book};
 
-use positions::position_amount;
+use holdings::ClassHoldings;
+use positions::Holding;
 
 // Of series s, if it is a security: net × multiplier × closing price − DVP. A net of 0 keeps its DVP.
-fn series_mtm(day: &[u32], nets: &[i64], dvps: &[i64], book: usize, s: usize) -> i64
-    requires given { Given day.now nets.now }
-    requires budget { Budget day.now (entry nets.now) (entry dvps.now) }
-    requires book_bound { (book < 2) × (s < series_count day.now) }
-    ensures { result ≡ cond (is_security (series_type day.now s)) (mtm_of day.now (entry nets.now) (entry dvps.now) book s) (pos 0) }
+fn series_mtm(class: &ClassHoldings, s: usize) -> i64
+    requires { s < series_count (class_day class.now) }
+    ensures { result ≡ cond (is_security (series_type (class_day class.now) s)) (mtm_of (class_day class.now) (class_net class.now) (class_dvp class.now) (class_book class.now) s) (pos 0) }
 {
-    if !series_types::is_security(day_file::series_type(day, s)) {
+    let series = class.series_at(s);
+    if !series.is_security() {
         return 0;
     }
-    let net = position_amount(nets, book, 0, s);
-    let price = amounts::signed(day_file::closing(day, s));
-    let value = worth::worth(day, s, net, price);
-    amounts::sub(value, position_amount(dvps, book, 0, s))
+    let price = amounts::signed(series.closing());
+    let value = worth::worth(&series, class.net(Holding::Open, s), price);
+    amounts::sub(value, class.dvp(Holding::Open, s))
 }
 
 // Of a class.
-pub fn mtm(
-    day: &[u32],
-    nets: &[i64],
-    dvps: &[i64],
-    book: usize,
-    c: usize,
-    a: usize,
-    b: usize,
-) -> i64
-    requires given { Given day.now nets.now }
-    requires budget { Budget day.now (entry nets.now) (entry dvps.now) }
-    requires book_bound { book < 2 }
-    requires range { Range day.now c a b }
-    ensures { result ≡ mtm_sum day.now (entry nets.now) (entry dvps.now) book c }
+pub fn mtm(class: &ClassHoldings) -> i64
+    ensures { result ≡ mtm_sum (class_day class.now) (class_net class.now) (class_dvp class.now) (class_book class.now) class.now.class }
 {
-    let mut sum: i64 = 0;
-    let mut s = a;
-    while s < b {
-        sum = amounts::add(sum, series_mtm(day, nets, dvps, book, s));
-        s = s + 1;
+    let mut sum = 0;
+    let series = class.series();
+    for s in series.start..series.end {
+        sum = amounts::add(sum, series_mtm(class, s));
     }
     sum
 }

@@ -9,19 +9,16 @@ ghost use Rattle.model.specs.Batch.{long, short, batch_words};
 ghost use Rattle.model.specs.Netting.{net as net_of, dvp as dvp_of, position_count};
 ghost use Rattle.netting.specs.Limits.{Limited};
 
-use batch::PLACES;
+use batch::{PLACES, Record};
 
 // The positions of a table of nets or DVPs.
 pub const POSITIONS: usize = 4 * PLACES;
 
-// What record r adds to the net of its position: short − long.
-fn change(batch: &[u32], r: usize) -> i64
-    requires { batch_words (r + 1) ≤ length batch.now }
-    ensures { result ≡ pos (short batch.now r) -ℤ pos (long batch.now r) }
+// What a record adds to the net of its position: short − long.
+fn change(r: &Record) -> i64
+    ensures { result ≡ pos (short r.now.batch.now r.now.index) -ℤ pos (long r.now.batch.now r.now.index) }
 {
-    let sold = amounts::signed(batch::short(batch, r));
-    let bought = amounts::signed(batch::long(batch, r));
-    amounts::sub(sold, bought)
+    i64::from(r.short()) - i64::from(r.long())
 }
 
 // Adds z to entry k of a table.
@@ -30,7 +27,7 @@ fn add_at(table: &mut [i64], k: usize, z: i64)
     requires sfits { SFits w64 (get_or table.old k (pos 0) +ℤ z) }
     ensures { table.new ≡ set table.old k (get_or table.old k (pos 0) +ℤ z) }
 {
-    table[k] = table[k] + z;
+    table[k] += z;
 }
 
 // The records added up by position, in one pass: tables of zeros become the tables of nets and of DVPs.
@@ -41,12 +38,10 @@ pub fn net_positions(batch: &[u32], nets: &mut [i64], dvps: &mut [i64])
     ensures nets_after { nets.new ≡ tabulate position_count (net_of batch.now) }
     ensures dvps_after { dvps.new ≡ tabulate position_count (dvp_of batch.now) }
 {
-    let count = batch::record_count(batch);
-    let mut r: usize = 0;
-    while r < count {
-        let k = batch::key(batch, r);
-        add_at(nets, k, change(batch, r));
-        add_at(dvps, k, batch::dvp_amount(batch, r));
-        r = r + 1;
+    for index in 0..batch::record_count(batch) {
+        let record = Record { batch, index };
+        let k = record.key();
+        add_at(nets, k, change(&record));
+        add_at(dvps, k, record.dvp_amount());
     }
 }

@@ -7,7 +7,6 @@ ghost use Rattle.model.specs.Netting.{net as net_of, dvp as dvp_of, position_cou
 ghost use Rattle.netting.specs.Limits.{Limited};
 ghost use Rattle.netting_times.specs.Netted.{netted};
 
-use model::Verdict;
 use netting::POSITIONS;
 
 // A table of zeros.
@@ -15,11 +14,7 @@ fn clear(table: &mut [i64])
     requires { length table.old ≡ position_count }
     ensures { table.new ≡ tabulate position_count (λ p. pos 0) }
 {
-    let mut p: usize = 0;
-    while p < POSITIONS {
-        table[p] = 0;
-        p = p + 1;
-    }
+    table.fill(0);
 }
 
 // The batch netted into two tables of any content.
@@ -42,10 +37,8 @@ fn net_more(batch: &[u32], nets: &mut [i64], dvps: &mut [i64], times: u32)
     ensures dvps_after { dvps.new ≡ tabulate position_count (dvp_of batch.now) }
 {
     net_again(batch, nets, dvps);
-    let mut k: u32 = 0;
-    while k < times {
+    for _ in 0..times {
         net_again(batch, nets, dvps);
-        k = k + 1;
     }
 }
 
@@ -53,10 +46,7 @@ fn net_more(batch: &[u32], nets: &mut [i64], dvps: &mut [i64], times: u32)
 fn can_net(day: &[u32], batch: &[u32], n: usize, m: usize) -> bool
     ensures { result ≡ netted day.now batch.now n m }
 {
-    match batch_check::check_batch(day, batch) {
-        Verdict::Passed => (n == POSITIONS) & (m == POSITIONS),
-        Verdict::Failed(_) => false,
-    }
+    batch_check::check_batch(day, batch).is_ok() & (n == POSITIONS) & (m == POSITIONS)
 }
 
 // 1 and both tables netted 1 + times times; or 0 and both as they were.

@@ -1,39 +1,27 @@
 // The class's ten amounts: each of its positions adds to what begins as ten zeros.
-ghost use Rattle.std.specs.Prelude.{◌≡◌, ◌<◌};
+ghost use Rattle.std.specs.Prelude.{◌≡◌};
 ghost use Rattle.numbers.specs.Table.{tabulate};
 ghost use Rattle.model.specs.Steps.Spread.{spread_quantity};
 ghost use Rattle.model.specs.Steps.Points.{class_point};
-ghost use Rattle.classes.specs.Tables.{entry, Given};
-ghost use Rattle.classes.specs.Range.{Range};
 ghost use Rattle.model.specs.Limits.{point_count};
+ghost use Rattle.holdings.specs.Seen.{class_day, class_net, class_book};
 
 use crate::series;
 use accumulator::Points;
+use holdings::ClassHoldings;
 use spread::sides::Sides;
 
 // The spread quantity is taken from the earliest expiry on: `before` has what the futures before s have taken of it.
-pub fn class_points(
-    day: &[u32],
-    nets: &[i64],
-    book: usize,
-    c: usize,
-    a: usize,
-    b: usize,
-    quantity: i64,
-) -> Points
-    requires given { Given day.now nets.now }
-    requires book_bound { book < 2 }
-    requires range { Range day.now c a b }
-    requires quantity_value { quantity ≡ spread_quantity day.now (entry nets.now) book c }
-    ensures { result.at ≡ tabulate point_count (class_point day.now (entry nets.now) book c) }
+pub fn class_points(class: &ClassHoldings, quantity: i64) -> Points
+    requires { quantity ≡ spread_quantity (class_day class.now) (class_net class.now) (class_book class.now) class.now.class }
+    ensures { result.at ≡ tabulate point_count (class_point (class_day class.now) (class_net class.now) (class_book class.now) class.now.class) }
 {
     let mut sum = Points::new();
     let mut before = Sides::new();
-    let mut s = a;
-    while s < b {
-        sum = series::add_series(sum, day, nets, book, c, s, quantity, before);
-        before = before.add(day, nets, book, s);
-        s = s + 1;
+    let series = class.series();
+    for s in series.start..series.end {
+        sum = series::add_series(sum, class, s, quantity, before);
+        before = before.add(class, s);
     }
     sum
 }

@@ -1,13 +1,11 @@
 -- A group's line by classes: some class of the group has, in its range, a series that is held.
-use Rattle.std.specs.Prelude.{◌≡◌, Bool, true, false, ◌&&◌, ◌||◌, List, ℕ, ◌+◌, ◌-◌, ◌≤◌, ◌<◌, eqb, ℤ}
+use Rattle.std.specs.Prelude.{◌≡◌, Bool, true, false, ◌&&◌, ◌||◌, List, ℕ, ◌+◌, ◌-◌, ◌≤◌, ◌<◌, eqb, ℤ, Option, Some, None, is_some}
 use Rattle.std.proofs.Math.Path.{refl, sym}
 use Rattle.std.proofs.Common.{ap, ◌∙◌, true≢false, arith, eq-eqb, ne_eqb}
 use Rattle.std.proofs.Math.Decide.{dec_le, dec_lt, ℕ_discrete}
-use Rattle.numbers.specs.declared.Found.{Found}
-use Rattle.numbers.specs.declared.Found.TheVariants.{At, Nothing}
 use Rattle.numbers.specs.Flags.{flag, flags}
 use Rattle.numbers.specs.Lists.{nothing_hit}
-use Rattle.numbers.specs.Scan.{first_bad, hit, any_below, first_at, first_clear, first-none, first_some}
+use Rattle.numbers.specs.Scan.{first_bad, any_below, first_at, first_clear, first-none, first_some}
 use Rattle.numbers.specs.Table.{tabulate, tabulate_ext}
 use Rattle.model.specs.DayFile.{class_count, series_count, series_class, series_group, group}
 use Rattle.model.specs.Netting.{position}
@@ -61,9 +59,9 @@ module _ (d : List ℕ) (n v : ℕ → ℤ) (k g : ℕ) (r : DayRows d) where
   some_series : (c : ℕ) → c < class_count d → group_held d n v k g c ≡ true → any_below (series_count d) (held_in d n v k g) ≡ true
   some_series c h e = by (first_bad (λ i. held_at n v k (start_of d c + i)) (start_of d (c + 1) - start_of d c)) refl (and_right (eqb (group d c) g) _ e)
     where
-      by : (f : Found) → first_bad (λ i. held_at n v k (start_of d c + i)) (start_of d (c + 1) - start_of d c) ≡ f → hit f ≡ true
+      by : (f : Option ℕ) → first_bad (λ i. held_at n v k (start_of d c + i)) (start_of d (c + 1) - start_of d c) ≡ f → is_some f ≡ true
           → any_below (series_count d) (held_in d n v k g) ≡ true
-      by (At i) p q =
+      by (Some i) p q =
           let z = first_at (λ i. held_at n v k (start_of d c + i)) (start_of d (c + 1) - start_of d c) i p in
           let w = range d r c h in
           let l : start_of d c + i < start_of d (c + 1) = omega (arith, z.0) in
@@ -71,7 +69,7 @@ module _ (d : List ℕ) (n v : ℕ → ℤ) (k g : ℕ) (r : DayRows d) where
           first_some (held_in d n v k g) (start_of d c + i) (series_count d)
           (in_class (start_of d c + i) ∙ (λ j. eqb (group d (x j)) g && z.1 j) ∙ ap (λ (t : Bool). t && true) (and_left (eqb (group d c) g) _ e))
           (omega (arith, w.end))
-      by Nothing p q = absurd (true≢false (sym q))
+      by None p q = absurd (true≢false (sym q))
 
   -- with no class held no series is
   no_series : ((c : ℕ) → c < class_count d → group_held d n v k g c ≡ false) → (s : ℕ) → s < series_count d → held_in d n v k g s ≡ false
@@ -99,9 +97,9 @@ module _ (d : List ℕ) (n v : ℕ → ℤ) (k g : ℕ) (r : DayRows d) where
   unfolding has_line
   line_by_class = by (first_bad (group_held d n v k g) (class_count d)) refl
     where
-      by : (f : Found) → first_bad (group_held d n v k g) (class_count d) ≡ f → hit f ≡ any_below (series_count d) (held_in d n v k g)
-      by (At c) e = let z = first_at (group_held d n v k g) (class_count d) c e in sym (some_series c z.0 z.1)
-      by Nothing e = sym (ap hit (first-none (held_in d n v k g) (series_count d) (no_series (first_clear (group_held d n v k g) (class_count d) e))))
+      by : (f : Option ℕ) → first_bad (group_held d n v k g) (class_count d) ≡ f → is_some f ≡ any_below (series_count d) (held_in d n v k g)
+      by (Some c) e = let z = first_at (group_held d n v k g) (class_count d) c e in sym (some_series c z.0 z.1)
+      by None e = sym (ap is_some (first-none (held_in d n v k g) (series_count d) (no_series (first_clear (group_held d n v k g) (class_count d) e))))
 
 pub groups_are : (d : List ℕ) (n v : ℕ → ℤ) (k : ℕ) → DayRows d → groups_to d n v k (class_count d) ≡ tabulate group_flags (has_line d n v k)
 groups_are d n v k r = tabulate_ext group_flags (flag (group d) (class_held d n v k) (class_count d)) (has_line d n v k) (λ g h. line_by_class d n v k g r)

@@ -7,73 +7,53 @@ ghost use Rattle.numbers.specs.Table.{tabulate};
 ghost use Rattle.model.specs.Netting.{position, places};
 ghost use Rattle.model.specs.Steps.Positions.{held};
 ghost use Rattle.model.specs.Steps.Lines.{has_line};
-ghost use Rattle.model.proofs.Accepted.{DayRows};
-ghost use Rattle.classes.specs.Tables.{entry};
-ghost use Rattle.classes.specs.Starts.{start_table, starts};
-ghost use Rattle.presence.specs.Presence.{held_at, group_flags};
 ghost use Rattle.model.specs.Limits.{most_series};
+ghost use Rattle.classes.specs.Tables.{entry};
+ghost use Rattle.positions.specs.Books.{book_number, holding_number};
+ghost use Rattle.presence.specs.Presence.{held_at, group_flags};
 
-use classes::starts::STARTS;
-use positions::position_amount;
+use classes::day::CheckedDay;
+use positions::{Book, Holding, position_amount};
 
 // A flag for each number that a class's group can have: five bits.
 pub const GROUP_FLAGS: usize = 32;
 
 // A position has net or DVP not zero.
-fn position_held(nets: &[i64], dvps: &[i64], book: usize, x: usize, s: usize) -> bool
-    requires { (book < 2) × (x < 2) × (s < 2 * places) }
-    ensures { result ≡ held (entry nets.now) (entry dvps.now) (position book x s) }
+fn position_held(nets: &[i64], dvps: &[i64], book: Book, holding: Holding, s: usize) -> bool
+    requires { s < 2 * places }
+    ensures { result ≡ held (entry nets.now) (entry dvps.now) (position (book_number book) (holding_number holding) s) }
 {
-    amounts::not_zero(position_amount(nets, book, x, s))
-        | amounts::not_zero(position_amount(dvps, book, x, s))
+    amounts::not_zero(position_amount(nets, book, holding, s))
+        | amounts::not_zero(position_amount(dvps, book, holding, s))
 }
 
 // One of the positions of series s has.
-fn series_held(nets: &[i64], dvps: &[i64], book: usize, s: usize) -> bool
-    requires { (book < 2) × (s < 2 * places) }
-    ensures { result ≡ held_at (entry nets.now) (entry dvps.now) book s }
+fn series_held(nets: &[i64], dvps: &[i64], book: Book, s: usize) -> bool
+    requires { s < 2 * places }
+    ensures { result ≡ held_at (entry nets.now) (entry dvps.now) (book_number book) s }
 {
-    position_held(nets, dvps, book, 0, s) | position_held(nets, dvps, book, 1, s)
+    position_held(nets, dvps, book, Holding::Open, s)
+        | position_held(nets, dvps, book, Holding::Exercised, s)
 }
 
 // One of `count` series from a on has.
-fn any_held(nets: &[i64], dvps: &[i64], book: usize, a: usize, count: usize) -> bool
-    requires { (book < 2) × (a + count ≤ most_series) }
-    ensures { result ≡ any_below count (λ i. held_at (entry nets.now) (entry dvps.now) book (a + i)) }
+fn any_held(nets: &[i64], dvps: &[i64], book: Book, a: usize, count: usize) -> bool
+    requires { a + count ≤ most_series }
+    ensures { result ≡ any_below count (λ i. held_at (entry nets.now) (entry dvps.now) (book_number book) (a + i)) }
 {
-    let mut i: usize = 0;
-    while i < count {
-        if series_held(nets, dvps, book, a + i) {
-            return true;
-        }
-        i = i + 1;
-    }
-    false
+    (0..count).any(|i| series_held(nets, dvps, book, a + i))
 }
 
 // Which groups have a line in this book, in one pass over the classes.
-pub fn groups_held(
-    day: &[u32],
-    starts: &[usize; STARTS],
-    nets: &[i64],
-    dvps: &[i64],
-    book: usize,
-) -> [bool; GROUP_FLAGS]
-    requires day_rows { DayRows day.now }
-    requires book_bound { book < 2 }
-    requires starts_value { starts.now ≡ start_table day.now }
-    ensures { result ≡ tabulate group_flags (has_line day.now (entry nets.now) (entry dvps.now) book) }
+pub fn groups_held(day: &CheckedDay, nets: &[i64], dvps: &[i64], book: Book) -> [bool; GROUP_FLAGS]
+    ensures { result ≡ tabulate group_flags (has_line day.now.words.now (entry nets.now) (entry dvps.now) (book_number book)) }
 {
-    let classes = day_file::class_count(day);
     let mut present = [false; GROUP_FLAGS];
-    let mut c: usize = 0;
-    while c < classes {
-        let g = day_file::group(day, c);
-        let a = starts[c];
-        let b = starts[c + 1];
+    for c in 0..day.class_count() {
+        let g = day.class(c).group();
+        let series = day.series_of(c);
         let was = present[g];
-        present[g] = was | any_held(nets, dvps, book, a, b - a);
-        c = c + 1;
+        present[g] = was | any_held(nets, dvps, book, series.start, series.end - series.start);
     }
     present
 }

@@ -9,7 +9,7 @@ ghost use Rattle.model.specs.Steps.Prices.{short_price, open_price};
 ghost use Rattle.model.specs.Limits.{point_count};
 
 use accumulator::Points;
-use day_file::{CLASS_WORDS, SERIES_WORDS};
+use day_file::{CLASS_WORDS, Class, SERIES_WORDS, Series};
 use words::payload;
 
 // The first point.
@@ -24,40 +24,28 @@ fn ten(day: &[u32], i: usize) -> [u32; Points::COUNT]
     ensures { result ≡ tabulate point_count (λ k. payload_of (get_or day.now (i + k) 0)) }
 {
     let mut row = [0u32; Points::COUNT];
-    let mut k: usize = 0;
-    while k < Points::COUNT {
+    for k in 0..Points::COUNT {
         row[k] = payload(day[i + k]);
-        k = k + 1;
     }
     row
 }
 
-// The ten theoretical prices of series s.
-fn theoretical_prices(day: &[u32], s: usize) -> [u32; Points::COUNT]
-    requires { series_at day.now (s + 1) ≤ length day.now }
-    ensures { result ≡ tabulate point_count (theoretical day.now s) }
+// The ten theoretical prices of a series.
+fn theoretical_prices(series: &Series) -> [u32; Points::COUNT]
+    ensures { result ≡ tabulate point_count (theoretical series.now.day.now series.now.place) }
 {
+    let classes = day_file::class_count(series.day);
     ten(
-        day,
-        1 + CLASS_WORDS * day_file::class_count(day) + SERIES_WORDS * s + 5,
+        series.day,
+        1 + CLASS_WORDS * classes + SERIES_WORDS * series.place + 5,
     )
 }
 
-// The ten projected underlying prices of class c.
-pub fn projected_prices(day: &[u32], c: usize) -> [u32; Points::COUNT]
-    requires { class_at (c + 1) ≤ length day.now }
-    ensures { result ≡ tabulate point_count (projected day.now c) }
+// The ten projected underlying prices of a class.
+pub fn projected_prices(class: &Class) -> [u32; Points::COUNT]
+    ensures { result ≡ tabulate point_count (projected class.now.day.now class.now.place) }
 {
-    ten(day, 1 + CLASS_WORDS * c + 10)
-}
-
-fn larger(a: u32, b: u32) -> u32
-    ensures { result ≡ max a b }
-{
-    if a < b {
-        return b;
-    }
-    a
+    ten(class.day, 1 + CLASS_WORDS * class.place + 10)
 }
 
 // Ten prices with the adjustment at point k where it is larger.
@@ -66,33 +54,30 @@ fn adjusted(prices: [u32; Points::COUNT], k: usize, adjustment: u32) -> [u32; Po
     ensures { result ≡ set prices k (max (get_or prices k 0) adjustment) }
 {
     let mut row = prices;
-    row[k] = larger(row[k], adjustment);
+    row[k] = row[k].max(adjustment);
     row
 }
 
-// The ten prices of a net short of series s: a call is adjusted at upside 5, a put at downside 5.
-fn short_prices(day: &[u32], s: usize) -> [u32; Points::COUNT]
-    requires { series_at day.now (s + 1) ≤ length day.now }
-    ensures { result ≡ tabulate point_count (short_price day.now s) }
+// The ten prices of a net short of a series: a call is adjusted at upside 5, a put at downside 5.
+fn short_prices(series: &Series) -> [u32; Points::COUNT]
+    ensures { result ≡ tabulate point_count (short_price series.now.day.now series.now.place) }
 {
-    let prices = theoretical_prices(day, s);
-    let t = day_file::series_type(day, s);
-    if series_types::is_call(t) {
-        return adjusted(prices, UPSIDE_5, day_file::adjustment(day, s));
+    let prices = theoretical_prices(series);
+    if series.is_call() {
+        return adjusted(prices, UPSIDE_5, series.adjustment());
     }
-    if series_types::is_put(t) {
-        return adjusted(prices, DOWNSIDE_5, day_file::adjustment(day, s));
+    if series.is_put() {
+        return adjusted(prices, DOWNSIDE_5, series.adjustment());
     }
     prices
 }
 
-// The ten prices of an open position of series s: the theoretical ones unless its net is short.
-pub fn open_prices(day: &[u32], s: usize, net: i64) -> [u32; Points::COUNT]
-    requires { series_at day.now (s + 1) ≤ length day.now }
-    ensures { result ≡ tabulate point_count (open_price day.now s net) }
+// The ten prices of an open position of a series: the theoretical ones unless its net is short.
+pub fn open_prices(series: &Series, net: i64) -> [u32; Points::COUNT]
+    ensures { result ≡ tabulate point_count (open_price series.now.day.now series.now.place net) }
 {
     if 0 < net {
-        return short_prices(day, s);
+        return short_prices(series);
     }
-    theoretical_prices(day, s)
+    theoretical_prices(series)
 }

@@ -1,11 +1,9 @@
 -- Sums and scans of step 2 as a loop over a class's range has them.
-use Rattle.std.specs.Prelude.{◌≡◌, Bool, true, false, List, ℕ, ◌*◌, ◌+◌, ◌≤◌, ◌<◌, ◌^◌, ℤ, pos, ◌+ℤ◌, ◌-ℤ◌, ◌*ℤ◌}
+use Rattle.std.specs.Prelude.{◌≡◌, Bool, true, false, List, ℕ, ◌*◌, ◌+◌, ◌≤◌, ◌<◌, ◌^◌, ℤ, pos, ◌+ℤ◌, ◌-ℤ◌, ◌*ℤ◌, Option, Some, None}
 use Rattle.std.proofs.Math.Path.{refl, sym, ap}
 use Rattle.std.proofs.Common.{◌∙◌, le_refl}
 use native.Mathlib.Omega.{arith}
 use Rattle.std.proofs.Math.IntN.{nat_abs}
-use Rattle.numbers.specs.declared.Found.{Found}
-use Rattle.numbers.specs.declared.Found.TheVariants.{At, Nothing}
 use Rattle.numbers.specs.Abs.{nat_abs-+, nat_abs--, nat_abs-*_le}
 use Rattle.numbers.specs.Extremes.{min_z, max_z, abs_z, max-zero_abs, min_abs}
 use Rattle.numbers.specs.Scan.{first_bad, first_more, first-hit, first_at}
@@ -55,21 +53,21 @@ module _ (d : List ℕ) (n : ℕ → ℤ) (k c a b : ℕ) (r : Range d c a b) wh
   unfolding held_future
   held_in_lem s e = rw e
 
-  pub spot_start : first_bad (held_future d n k c) a ≡ Nothing
+  pub spot_start : first_bad (held_future d n k c) a ≡ None
   spot_start = scan_start d c a b r (held_future d n k c) (held_here d n k) held_out held_in_lem
 
-  pub spot_more : (s : ℕ) (t : Bool) → a ≤ s → s < b → first_bad (held_future d n k c) s ≡ Nothing → t ≡ held_here d n k s → t ≡ false
-      → first_bad (held_future d n k c) (s + 1) ≡ Nothing
+  pub spot_more : (s : ℕ) (t : Bool) → a ≤ s → s < b → first_bad (held_future d n k c) s ≡ None → t ≡ held_here d n k s → t ≡ false
+      → first_bad (held_future d n k c) (s + 1) ≡ None
   spot_more s t p q h e f = first_more (held_future d n k c) s h (at d c a b r (held_future d n k c) (held_here d n k) held_out held_in_lem s p q ∙ sym e ∙ f)
 
-  pub spot_hit : (s : ℕ) (t : Bool) → a ≤ s → s < b → first_bad (held_future d n k c) s ≡ Nothing → t ≡ held_here d n k s → t ≡ true
+  pub spot_hit : (s : ℕ) (t : Bool) → a ≤ s → s < b → first_bad (held_future d n k c) s ≡ None → t ≡ held_here d n k s → t ≡ true
       → abs_z (open_net n k s) ≡ spot_size d n k c
   unfolding spot_size
   spot_hit s t p q h e f =
       sym (ap (size_at d n k)
       (first-hit (held_future d n k c) s (series_count d) h (at d c a b r (held_future d n k c) (held_here d n k) held_out held_in_lem s p q ∙ sym e ∙ f) (omega (arith, r.end))))
 
-  pub spot_none : (s : ℕ) → s ≡ b → first_bad (held_future d n k c) s ≡ Nothing → pos 0 ≡ spot_size d n k c
+  pub spot_none : (s : ℕ) → s ≡ b → first_bad (held_future d n k c) s ≡ None → pos 0 ≡ spot_size d n k c
   unfolding spot_size
   spot_none s e h =
       sym (ap (size_at d n k) (scan_end d c a b r (held_future d n k c) (held_here d n k) held_out held_in_lem (ap (first_bad (held_future d n k c)) (sym e) ∙ h)))
@@ -98,9 +96,9 @@ module _ (d : List ℕ) (nets : List ℤ) (w : Given d nets) (k c : ℕ) (hk : k
   unfolding spot_size
   spot_size_lem = by (first_bad (held_future d (entry nets) k c) (series_count d)) refl
     where
-      by : (f : Found) → first_bad (held_future d (entry nets) k c) (series_count d) ≡ f → nat_abs (size_at d (entry nets) k f) ≤ contracts_limit
-      by (At s) e = net-size d nets w k 0 s hk (omega arith) (first_at (held_future d (entry nets) k c) (series_count d) s e).0
-      by Nothing e = omega arith
+      by : (f : Option ℕ) → first_bad (held_future d (entry nets) k c) (series_count d) ≡ f → nat_abs (size_at d (entry nets) k f) ≤ contracts_limit
+      by (Some s) e = net-size d nets w k 0 s hk (omega arith) (first_at (held_future d (entry nets) k c) (series_count d) s e).0
+      by None e = omega arith
 
 pub spread_parts : (d : List ℕ) (n : ℕ → ℤ) (k c : ℕ)
     → spread_amount (spot_size d n k c) (spread_quantity d n k c) (spot_rate d c) (non_spot_rate d c) ≡ spread d n k c

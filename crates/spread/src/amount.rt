@@ -1,12 +1,12 @@
 // The spread margin.
-ghost use Rattle.std.specs.Prelude.{◌≡◌, ◌≤◌, ◌<◌, nat_abs};
+ghost use Rattle.std.specs.Prelude.{◌≡◌, ◌≤◌, nat_abs};
 ghost use Rattle.model.specs.Steps.Spread.{spread_quantity, spread as spread_of};
 ghost use Rattle.model.specs.Limits.{contracts_limit, price_limit};
-ghost use Rattle.classes.specs.Tables.{entry, Given};
-ghost use Rattle.classes.specs.Range.{Range};
+ghost use Rattle.holdings.specs.Seen.{class_day, class_net, class_book};
 ghost use Rattle.spread.specs.Sides.{spread_amount};
 
 use crate::spot;
+use holdings::ClassHoldings;
 
 // Spot spread and non-spot spread, each times its rate.
 fn spread_amount(spot: i64, quantity: i64, near_rate: u32, far_rate: u32) -> i64
@@ -21,24 +21,14 @@ fn spread_amount(spot: i64, quantity: i64, near_rate: u32, far_rate: u32) -> i64
     )
 }
 
-// The spread margin of a class with these sides.
-pub fn spread(
-    day: &[u32],
-    nets: &[i64],
-    book: usize,
-    c: usize,
-    a: usize,
-    b: usize,
-    quantity: i64,
-) -> i64
-    requires given { Given day.now nets.now }
-    requires book_bound { book < 2 }
-    requires range { Range day.now c a b }
-    requires quantity_value { quantity ≡ spread_quantity day.now (entry nets.now) book c }
-    ensures { result ≡ spread_of day.now (entry nets.now) book c }
+// The spread margin of a class with this spread quantity.
+pub fn spread(class: &ClassHoldings, quantity: i64) -> i64
+    requires { quantity ≡ spread_quantity (class_day class.now) (class_net class.now) (class_book class.now) class.now.class }
+    ensures { result ≡ spread_of (class_day class.now) (class_net class.now) (class_book class.now) class.now.class }
 {
-    let spot = spot::spot_size(day, nets, book, c, a, b);
-    let spot_rate = day_file::spot_rate(day, c);
-    let rate = day_file::non_spot_rate(day, c);
+    let spot = spot::spot_size(class);
+    let of = class.class();
+    let spot_rate = of.spot_rate();
+    let rate = of.non_spot_rate();
     spread_amount(spot, quantity, spot_rate, rate)
 }

@@ -3,11 +3,11 @@ ghost use Rattle.std.specs.Prelude.{◌≡◌, ◌≤◌, ◌<◌, ◌^◌, pos,
 ghost use Rattle.model.specs.DayFile.{series_count};
 ghost use Rattle.model.specs.Steps.Spread.{short_side, long_side, total_short, total_long};
 ghost use Rattle.model.specs.Limits.{contracts_limit};
-ghost use Rattle.classes.specs.Tables.{entry, Given};
-ghost use Rattle.classes.specs.Range.{Range};
+ghost use Rattle.holdings.specs.Seen.{class_day, class_net, class_book};
 ghost use Rattle.spread.specs.Sides.{future_short, future_long};
 
-use positions::position_amount;
+use holdings::ClassHoldings;
+use positions::Holding;
 
 // The two sides of some futures: contracts net short and net long.
 #[derive(Clone, Copy)]
@@ -37,16 +37,15 @@ impl Sides {
     }
 
     // The sides with those of series s added, if it is a future.
-    pub fn add(self, day: &[u32], nets: &[i64], book: usize, s: usize) -> Self
-        requires given { Given day.now nets.now }
-        requires book_bound { (book < 2) × (s < series_count day.now) }
+    pub fn add(self, class: &ClassHoldings, s: usize) -> Self
+        requires s_bound { s < series_count (class_day class.now) }
         requires short_bound { (nat_abs self.short ≤ contracts_limit) × (nat_abs self.long ≤ contracts_limit) }
-        ensures { (result.short ≡ self.short +ℤ future_short day.now (entry nets.now) book s) × (result.long ≡ self.long +ℤ future_long day.now (entry nets.now) book s) }
+        ensures { (result.short ≡ self.short +ℤ future_short (class_day class.now) (class_net class.now) (class_book class.now) s) × (result.long ≡ self.long +ℤ future_long (class_day class.now) (class_net class.now) (class_book class.now) s) }
     {
-        if !series_types::is_future(day_file::series_type(day, s)) {
+        if !class.series_at(s).is_future() {
             return self;
         }
-        let z = position_amount(nets, book, 0, s);
+        let z = class.net(Holding::Open, s);
         Sides {
             short: amounts::add(self.short, short_side(z)),
             long: amounts::add(self.long, long_side(z)),
@@ -55,17 +54,13 @@ impl Sides {
 }
 
 // The sides of the class's open futures, total net short and total net long.
-pub fn total_sides(day: &[u32], nets: &[i64], book: usize, c: usize, a: usize, b: usize) -> Sides
-    requires given { Given day.now nets.now }
-    requires book_bound { book < 2 }
-    requires range { Range day.now c a b }
-    ensures { (result.short ≡ total_short day.now (entry nets.now) book c) × (result.long ≡ total_long day.now (entry nets.now) book c) }
+pub fn total_sides(class: &ClassHoldings) -> Sides
+    ensures { (result.short ≡ total_short (class_day class.now) (class_net class.now) (class_book class.now) class.now.class) × (result.long ≡ total_long (class_day class.now) (class_net class.now) (class_book class.now) class.now.class) }
 {
     let mut sum = Sides::new();
-    let mut s = a;
-    while s < b {
-        sum = sum.add(day, nets, book, s);
-        s = s + 1;
+    let series = class.series();
+    for s in series.start..series.end {
+        sum = sum.add(class, s);
     }
     sum
 }

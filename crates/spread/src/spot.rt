@@ -2,37 +2,32 @@
 ghost use Rattle.std.specs.Prelude.{◌≡◌, ◌<◌};
 ghost use Rattle.model.specs.DayFile.{series_count};
 ghost use Rattle.model.specs.Steps.Spread.{spot_size};
-ghost use Rattle.classes.specs.Tables.{entry, Day, Given};
-ghost use Rattle.classes.specs.Range.{Range};
+ghost use Rattle.holdings.specs.Seen.{class_day, class_net, class_book};
 ghost use Rattle.spread.specs.Sides.{held_here};
 
-use positions::position_amount;
+use holdings::ClassHoldings;
+use positions::Holding;
 
 // Series s of the class is a future with a non-zero net.
-fn held_future(day: &[u32], nets: &[i64], book: usize, s: usize) -> bool
-    requires day { Day day.now }
-    requires book_bound { (book < 2) × (s < series_count day.now) }
-    ensures { result ≡ held_here day.now (entry nets.now) book s }
+fn held_future(class: &ClassHoldings, s: usize) -> bool
+    requires { s < series_count (class_day class.now) }
+    ensures { result ≡ held_here (class_day class.now) (class_net class.now) (class_book class.now) s }
 {
-    if !series_types::is_future(day_file::series_type(day, s)) {
+    if !class.series_at(s).is_future() {
         return false;
     }
-    amounts::not_zero(position_amount(nets, book, 0, s))
+    amounts::not_zero(class.net(Holding::Open, s))
 }
 
 // The absolute net of the spot: the first future held, which has the earliest expiry.
-pub fn spot_size(day: &[u32], nets: &[i64], book: usize, c: usize, a: usize, b: usize) -> i64
-    requires given { Given day.now nets.now }
-    requires book_bound { book < 2 }
-    requires range { Range day.now c a b }
-    ensures { result ≡ spot_size day.now (entry nets.now) book c }
+pub fn spot_size(class: &ClassHoldings) -> i64
+    ensures { result ≡ spot_size (class_day class.now) (class_net class.now) (class_book class.now) class.now.class }
 {
-    let mut s = a;
-    while s < b {
-        if held_future(day, nets, book, s) {
-            return amounts::absolute(position_amount(nets, book, 0, s));
+    let series = class.series();
+    for s in series.start..series.end {
+        if held_future(class, s) {
+            return amounts::absolute(class.net(Holding::Open, s));
         }
-        s = s + 1;
     }
     0
 }

@@ -1,10 +1,6 @@
-use Rattle.std.proofs.Common.{◌-◌, ◌≡◌, ◌≤◌, pos, get_or}
-use Rattle.model.specs.Limits.{point_count}
-use Rattle.additional.proofs.largest.Given as goal
+use Rattle.std.proofs.Common.{◌≡◌, pos, get_or}
 use Rattle.numbers.specs.Extremes.{largest}
+use Rattle.additional.proofs.largest.Given as goal
 
-abbrev pub invariant-loop-k : goal.invariant-loop-k
-invariant-loop-k l = (l.k ≤ point_count) × (l.most ≡ largest l.k (λ j. get_or l.points.at j (pos 0)))
-
-abbrev pub decreases-loop-k : goal.decreases-loop-k
-decreases-loop-k l = point_count - l.k
+abbrev pub invariant-loop-amount : goal.invariant-loop-amount
+invariant-loop-amount l = l.most ≡ largest l.amount-index (λ j. get_or l.fn.points.at j (pos 0))

@@ -1,44 +1,38 @@
-use Rattle.std.proofs.Common.{rules, ◌≡◌, ℕ, pos, get_or, length, List, w64, ℤ, to_z, of_z, ap, ◌∙◌, arith, set}
+use Rattle.std.proofs.Common.{rules, ◌≡◌, ℕ, ◌<◌, pos, get_or, length, List, ℤ, ap, ◌∙◌, arith, set}
 use Rattle.model.specs.Steps.Additional.{after_offset}
 use Rattle.model.specs.Limits.{point_count}
+use Rattle.numbers.specs.Abs.{back, told}
+use Rattle.numbers.specs.Filling.{filled_all, filled_at, filled_more, filled_none, tabulate-get_or}
 use Rattle.additional.proofs.offset.Goals as goal
-use Rattle.numbers.specs.Abs.{told}
-use Rattle.numbers.specs.Filling.{filled_all}
-use Rattle.numbers.specs.Filling.{filled_at}
-use Rattle.numbers.specs.Filling.{filled_more}
-use Rattle.numbers.specs.Filling.{filled_none}
-use Rattle.numbers.specs.Filling.{tabulate-get_or}
+
+abbrev old : List ℤ → ℕ → ℤ
+old a k = get_or a k (pos 0)
 
 abbrev new : ℕ → List ℤ → ℕ → ℤ
-new p a k = after_offset p (get_or a k (pos 0))
+new p a k = after_offset p (old a k)
 
 pub loop-k-init : goal.loop-k-init
 loop-k-init c =
     let a = c.args.points.at in
-    let old : ℕ → ℤ = λ k. get_or a k (pos 0) in
-    let la : length a ≡ point_count = search rules in
-    (search rules, tabulate-get_or (a) point_count (pos 0) (la) ∙ filled_none point_count (new c.args.o (a)) (old))
+    let l : length a ≡ point_count = search rules in
+    tabulate-get_or a point_count (pos 0) l ∙ filled_none point_count (new c.args.o a) (old a)
 
 pub after_offset-requires : goal.after_offset-requires
 after_offset-requires c =
     let a = c.args.points.at in
-    let old : ℕ → ℤ = λ k. get_or a k (pos 0) in
-    let was_is : to_z w64 (of_z w64 (get_or c.loop-k.next.at c.loop-k.k (pos 0))) ≡ old c.loop-k.k = told c.was-1.given (ap (λ x. get_or x c.loop-k.k (pos 0)) c.loop-k.invariant.1 ∙ filled_at point_count (new c.args.o (a)) (old) c.loop-k.k (pos 0) (omega arith)) in
-    (search rules, rw (was_is) (c.requires.by_index c.loop-k.k (omega arith)))
+    let k = c.loop-k.k in
+    let h : k < point_count = omega arith in
+    let was = ap (λ x. get_or x k (pos 0)) c.loop-k.invariant ∙ filled_at point_count (new c.args.o a) (old a) k (pos 0) h in
+    (search rules, rw (back was (omega (arith, c.requires.by_index k h))) (c.requires.by_index k h))
 
 pub loop-k-preserved : goal.loop-k-preserved
 loop-k-preserved c =
     let a = c.args.points.at in
-    let old : ℕ → ℤ = λ k. get_or a k (pos 0) in
-    let was_is : to_z w64 (of_z w64 (get_or c.loop-k.next.at c.loop-k.k (pos 0))) ≡ old c.loop-k.k = told c.was-1.given (ap (λ x. get_or x c.loop-k.k (pos 0)) c.loop-k.invariant.1 ∙ filled_at point_count (new c.args.o (a)) (old) c.loop-k.k (pos 0) (omega arith)) in
-    let p = c.args.o in (
-      search rules,
-      (λ i. set (c.loop-k.invariant.1 i) c.loop-k.k (told c.after_offset.type_inv (c.after_offset.ensures ∙ ap (after_offset p) (was_is)) i))
-          ∙ filled_more point_count (new p (a)) (old) c.loop-k.k (omega arith),
-    )
+    let k = c.loop-k.k in
+    let h : k < point_count = omega arith in
+    let was = ap (λ x. get_or x k (pos 0)) c.loop-k.invariant ∙ filled_at point_count (new c.args.o a) (old a) k (pos 0) h in
+    let after = told c.after_offset.type_inv (c.after_offset.ensures ∙ ap (after_offset c.args.o) (back was (omega (arith, c.requires.by_index k h)))) in
+    (λ i. set (c.loop-k.invariant i) k (after i)) ∙ filled_more point_count (new c.args.o a) (old a) k h
 
 pub returns : goal.returns
-returns c =
-    let a = c.args.points.at in
-    let old : ℕ → ℤ = λ k. get_or a k (pos 0) in
-    c.loop-k.invariant.1 ∙ filled_all point_count (new c.args.o (a)) (old) c.loop-k.k c.loop-k-test.false
+returns c = c.loop-k.invariant ∙ filled_all point_count (new c.args.o c.args.points.at) (old c.args.points.at) c.loop-k.k c.loop-k-test.false

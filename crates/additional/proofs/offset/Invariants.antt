@@ -1,4 +1,4 @@
-use Rattle.std.proofs.Common.{◌-◌, ◌≡◌, ℕ, ◌≤◌, pos, get_or, ℤ, List}
+use Rattle.std.proofs.Common.{◌≡◌, ℕ, pos, get_or, ℤ, List}
 use Rattle.model.specs.Steps.Additional.{after_offset}
 use Rattle.model.specs.Limits.{point_count}
 use Rattle.additional.proofs.offset.Given as goal
@@ -8,7 +8,4 @@ abbrev new : ℕ → List ℤ → ℕ → ℤ
 new p a k = after_offset p (get_or a k (pos 0))
 
 abbrev pub invariant-loop-k : goal.invariant-loop-k
-invariant-loop-k l = (l.k ≤ point_count) × (l.next.at ≡ filled point_count (new l.o l.initial.next.at) (λ i. get_or l.initial.next.at i (pos 0)) l.k)
-
-abbrev pub decreases-loop-k : goal.decreases-loop-k
-decreases-loop-k l = point_count - l.k
+invariant-loop-k l = l.next.at ≡ filled point_count (new l.o l.initial.next.at) (λ i. get_or l.initial.next.at i (pos 0)) l.k

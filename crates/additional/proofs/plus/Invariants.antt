@@ -1,4 +1,4 @@
-use Rattle.std.proofs.Common.{◌-◌, ◌≡◌, ℕ, ◌≤◌, pos, ◌+ℤ◌, get_or, ℤ, List}
+use Rattle.std.proofs.Common.{◌≡◌, ℕ, pos, ◌+ℤ◌, get_or, ℤ, List}
 use Rattle.model.specs.Limits.{point_count}
 use Rattle.additional.proofs.plus.Given as goal
 use Rattle.numbers.specs.Filling.{filled}
@@ -7,7 +7,4 @@ abbrev new : List ℤ → List ℤ → ℕ → ℤ
 new a b k = get_or a k (pos 0) +ℤ get_or b k (pos 0)
 
 abbrev pub invariant-loop-k : goal.invariant-loop-k
-invariant-loop-k l = (l.k ≤ point_count) × (l.next.at ≡ filled point_count (new l.fn.points.at l.more.at) (λ i. get_or l.fn.points.at i (pos 0)) l.k)
-
-abbrev pub decreases-loop-k : goal.decreases-loop-k
-decreases-loop-k l = point_count - l.k
+invariant-loop-k l = l.next.at ≡ filled point_count (new l.fn.points.at l.more.at) (λ i. get_or l.fn.points.at i (pos 0)) l.k

@@ -1,10 +1,8 @@
-use Rattle.std.proofs.Common.{◌-◌, ◌≡◌, ◌≤◌, get_or}
-use Rattle.classes.specs.Tables.{entry}
+use Rattle.std.proofs.Common.{◌≡◌}
+use Rattle.classes.specs.Range.{start_of}
+use Rattle.holdings.specs.Seen.{day_of, net_of}
 use Rattle.cover.specs.Covered.{covered_to}
 use Rattle.cover.proofs.cover.Given as goal
 
 abbrev pub invariant-loop-c : goal.invariant-loop-c
-invariant-loop-c l = (l.c ≤ l.classes) × (l.after ≡ covered_to l.day l.deposits (entry l.nets) (get_or l.starts l.c 0))
-
-abbrev pub decreases-loop-c : goal.decreases-loop-c
-decreases-loop-c l = l.classes - l.c
+invariant-loop-c l = l.after ≡ covered_to (day_of l.fn.before) l.deposits (net_of l.fn.before) (start_of (day_of l.fn.before) l.c)

@@ -1,40 +1,27 @@
-use Rattle.std.proofs.Common.{rules, ◌≡◌, length, ℕ, ◌+◌, ◌-◌, ◌*◌, ◌<◌, ◌≤◌, ◌/◌, ◌%◌, Bool, true, false, nat_eq, nat_lt, List, [], ◌∷◌, ◌++◌, slice_index_or, slice_set, bit_and, bit_or, Fits, w8, w32, w64, Bor, MutBor, ◌∙◌, sym, ap}
-use Rattle.model.specs.Calls.{answer_of, room_answer, written}
-use Rattle.model.specs.DepositChecks.{deposit_check}
-use Rattle.model.specs.Netting.{position_count}
-use Rattle.model.specs.Report.{report_words, words_needed}
-use Rattle.model.specs.Steps.Cover.{covered}
-use Rattle.model.proofs.Accepted.{DayRows, DepositRows}
-use Rattle.model.proofs.Records.{Budget}
-use Rattle.classes.specs.Starts.{start_table}
-use Rattle.classes.specs.Tables.{entry}
-use Rattle.covered_report.proofs.report_covered.Goals as goal
-use Rattle.classes.specs.Tables.{accepted_day}
-use Rattle.covered_report.specs.Deposits.{none_answered}
-use Rattle.covered_report.specs.Deposits.{none_reported_lem}
+use Rattle.std.specs.Prelude.{Ok}
+use Rattle.std.proofs.Common.{◌≡◌, ◌∙◌, sym, ap, length, ℕ, List, eqb-true}
+use Rattle.holdings.specs.Seen.{day_of, net_of, dvp_of}
 use Rattle.model.proofs.Accepted.{deposit_checked}
-use Rattle.model.specs.declared.Answer.{Answer}
-use Rattle.model.specs.declared.Verdict.TheVariants.{Passed}
+use Rattle.model.specs.Calls.{room_answer, written}
+use Rattle.model.specs.DepositChecks.{deposit_check}
+use Rattle.model.specs.Report.{words_needed}
+use Rattle.covered_report.proofs.report_covered.Goals as goal
+use Rattle.covered_report.specs.Deposits.{none_answered, none_reported_lem}
 
-pub returns-then-deposits-eq0 : goal.returns-then-deposits-eq0
-returns-then-deposits-eq0 c =
-    let d = c.args.day.now in
+pub returns-then-is_empty : goal.returns-then-is_empty
+returns-then-is_empty c =
+    let h = c.args.before.now in
     let x = c.args.deposits.now in
-    let n = entry c.args.nets.now in
-    let v = entry c.args.dvps.now in
-    let m = c.args.memory.now in
-    let room : Answer = room_answer (words_needed d n v) (length m) in
-    let e = c.if-deposits-eq0.true in
-    record { value = c.report_accepted.ensures.value ∙ none_answered (d) (x) e (room); memory_after = c.report_accepted.ensures.memory_after ∙ ap (λ (w : List ℕ). written c.report_accepted.result w (m)) (none_reported_lem (d) (x) e (n) (v)) }
-
-pub check_deposits-requires : goal.check_deposits-requires
-check_deposits-requires c =
-    let d = c.args.day.now in
-    record { day = accepted_day (d) c.requires.day_rows; starts_value = c.requires.starts_value }
+    let e : length x ≡ 0 = eqb-true (length x) 0 (sym c.if-is_empty.ensures) in
+    record {
+      value = c.report_accepted.ensures.value ∙ none_answered (day_of h) x e (room_answer (words_needed (day_of h) (net_of h) (dvp_of h)) (length c.args.memory.now));
+      memory_after =
+          c.report_accepted.ensures.memory_after
+          ∙ ap (λ (w : List ℕ). written c.report_accepted.result w c.args.memory.now) (none_reported_lem (day_of h) x e (net_of h) (dvp_of h));
+    }
 
 pub report_reduced-requires : goal.report_reduced-requires
 report_reduced-requires c =
-    let d = c.args.day.now in
-    let x = c.args.deposits.now in
-    let passed : deposit_check (d) (x) ≡ Passed = sym c.check_deposits.ensures ∙ c.in_default.is in
-    record { day_rows = c.requires.day_rows; deposit_rows = deposit_checked (d) (x) (passed); budget = c.requires.budget; starts_value = c.requires.starts_value; nets_len = c.requires.nets_len }
+    let d = day_of c.args.before.now in
+    let passed : deposit_check d c.args.deposits.now ≡ Ok tt = sym c.check_deposits.ensures ∙ c.in_ok-check_deposits.was in
+    record { deposit_rows = deposit_checked d c.args.deposits.now passed; nets_len = c.requires.nets_len }

@@ -1,27 +1,28 @@
-use Rattle.std.proofs.Common.{rules, ◌≡◌, length, ℕ, ◌+◌, ◌-◌, ◌*◌, ◌<◌, ◌≤◌, ◌/◌, ◌%◌, Bool, true, false, nat_eq, nat_lt, List, [], ◌∷◌, ◌++◌, slice_index_or, slice_set, bit_and, bit_or, Fits, w8, w32, w64, Bor, MutBor, ◌∙◌, ap}
-use Rattle.model.specs.Calls.{answer_of, room_answer, written}
-use Rattle.model.specs.DepositChecks.{deposit_check}
-use Rattle.model.specs.Netting.{position_count}
-use Rattle.model.specs.Report.{report_words, words_needed}
-use Rattle.model.specs.Steps.Cover.{covered}
-use Rattle.model.proofs.Accepted.{DayRows, DepositRows}
-use Rattle.model.proofs.Records.{Budget}
-use Rattle.classes.specs.Starts.{start_table}
-use Rattle.classes.specs.Tables.{entry}
+use Rattle.std.proofs.Common.{◌∙◌, ap, ℕ, List}
+use Rattle.classes.specs.Checked.{checked_rows}
+use Rattle.holdings.specs.Facts.{budget}
+use Rattle.holdings.specs.Seen.{day_of}
+use Rattle.model.proofs.Fewest.{few_of}
+use Rattle.model.specs.Calls.{written}
+use Rattle.numbers.specs.Table.{entry}
 use Rattle.covered_report.proofs.report_reduced.Goals as goal
-use Rattle.std.proofs.Common.{refl}
-use Rattle.classes.specs.Tables.{given}
-use Rattle.covered_report.specs.Deposits.{after_budget}
-use Rattle.covered_report.specs.Deposits.{after_reported}
+use Rattle.covered_report.specs.Deposits.{after_budget, after_reported}
 
-pub cover-requires : goal.cover-requires
-cover-requires c =
-    record { given = given c.args.day.now c.args.nets.now (entry c.args.dvps.now) c.requires.day_rows c.requires.budget; starts_value = c.requires.starts_value; deposit_rows = c.requires.deposit_rows; nets_len = c.requires.nets_len; after_len = refl }
-
-pub report_accepted-requires : goal.report_accepted-requires
-report_accepted-requires c =
-    record { day_rows = c.requires.day_rows; budget = after_budget c.args.day.now c.args.deposits.now c.args.nets.now c.args.dvps.now c.cover.new.after c.requires.day_rows c.cover.ensures c.requires.budget; starts_value = c.requires.starts_value }
+pub invariant_of-after : goal.invariant_of-after
+invariant_of-after c =
+    let h = c.args.before.now in
+    let d = day_of h in
+    let r = checked_rows d h.day.now.checked in
+    record { few = few_of d (entry c.cover.new.after) (entry h.dvps.now) r (after_budget d c.args.deposits.now h.nets.now h.dvps.now c.cover.new.after r c.cover.ensures (budget h)) }
 
 pub returns : goal.returns
 returns c =
-    record { value = c.report_accepted.ensures.value; memory_after = c.report_accepted.ensures.memory_after ∙ ap (λ (w : List ℕ). written c.report_accepted.result w c.args.memory.now) (after_reported c.args.day.now c.args.deposits.now c.args.nets.now c.args.dvps.now c.cover.new.after c.requires.day_rows c.cover.ensures) }
+    let h = c.args.before.now in
+    let d = day_of h in
+    let r = checked_rows d h.day.now.checked in
+    record {
+      value = c.report_accepted.ensures.value;
+      memory_after =
+          c.report_accepted.ensures.memory_after
+          ∙ ap (λ (w : List ℕ). written c.report_accepted.result w c.args.memory.now) (after_reported d c.args.deposits.now h.nets.now h.dvps.now c.cover.new.after r c.cover.ensures);
+    }

@@ -1,10 +1,7 @@
-use Rattle.std.proofs.Common.{◌∷◌, [], to_z-of_z, ◌∙◌, ap}
-use Rattle.numbers.specs.Put.{put}
+use Rattle.std.proofs.Common.{◌∷◌, [], to_z-of_z, ◌∙◌, ap, arith}
+use Rattle.numbers.specs.Put.{put_copied}
+use Rattle.model.specs.Words.{amount_words, high_word, middle_word, low_word}
 use Rattle.line_words.proofs.write_amount.Goals as goal
-use Rattle.line_words.specs.Amounts.{three_stores}
-use Rattle.model.specs.Words.{high_word}
-use Rattle.model.specs.Words.{low_word}
-use Rattle.model.specs.Words.{middle_word}
 
 pub returns : goal.returns
 returns c =
@@ -12,4 +9,4 @@ returns c =
     let h = c.high_word.ensures ∙ ap high_word e in
     let m = c.middle_word.ensures ∙ ap middle_word e in
     let l = c.low_word.ensures ∙ ap low_word e in
-    three_stores c.args.out.now c.args.at _ _ _ c.requires.0 ∙ (λ i. put c.args.at (h i ∷ m i ∷ l i ∷ []) c.args.out.now)
+    put_copied c.args.at _ (amount_words c.args.z) c.args.out.now _ (c.copy_from_slice.ensures.after ∙ (λ i. h i ∷ m i ∷ l i ∷ [])) (omega arith)

@@ -1,10 +1,7 @@
-use Rattle.std.proofs.Common.{length, ◌-◌, ◌≡◌, ◌≤◌, take}
+use Rattle.std.proofs.Common.{◌≡◌, take}
 use Rattle.numbers.specs.Put.{put}
 use Rattle.model.specs.Report.{words_of_amounts}
 use Rattle.line_words.proofs.write_amounts.Given as goal
 
 abbrev pub invariant-loop-i : goal.invariant-loop-i
-invariant-loop-i l = (l.i ≤ length l.amounts) × (l.out ≡ put l.at (words_of_amounts (take l.i l.amounts)) l.fn.out)
-
-abbrev pub decreases-loop-i : goal.decreases-loop-i
-decreases-loop-i l = length l.amounts - l.i
+invariant-loop-i l = l.out ≡ put l.at (words_of_amounts (take l.i l.amounts)) l.fn.out

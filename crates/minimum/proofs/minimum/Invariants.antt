@@ -1,11 +1,7 @@
-use Rattle.std.proofs.Common.{◌-◌, ◌≡◌, ◌≤◌}
-use Rattle.classes.specs.Tables.{entry}
-use Rattle.minimum.proofs.minimum.Given as goal
+use Rattle.std.proofs.Common.{◌≡◌}
+use Rattle.holdings.specs.Seen.{class_day, class_net, class_book}
 use Rattle.minimum.specs.Types.{minimum_to}
-use Rattle.model.specs.Steps.Minimum.{minimum_types}
+use Rattle.minimum.proofs.minimum.Given as goal
 
-abbrev pub invariant-loop-i : goal.invariant-loop-i
-invariant-loop-i l = (l.i ≤ minimum_types) × (l.sum ≡ minimum_to l.day (entry l.nets) l.book l.c l.i)
-
-abbrev pub decreases-loop-i : goal.decreases-loop-i
-decreases-loop-i l = minimum_types - l.i
+abbrev pub invariant-loop-t : goal.invariant-loop-t
+invariant-loop-t l = l.sum ≡ minimum_to (class_day l.class) (class_net l.class) (class_book l.class) l.class.class l.t-index

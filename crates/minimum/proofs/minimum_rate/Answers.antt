@@ -1,24 +1,23 @@
-use Rattle.std.proofs.Common.{rules}
+use Rattle.std.proofs.Common.{⊎_elim}
 use Rattle.model.specs.Steps.Minimum.{minimum_rate}
 use Rattle.minimum.proofs.minimum_rate.Goals as goal
-use Rattle.numbers.specs.Cond.{flags}
 
-pub returns-then-is_future : goal.returns-then-is_future
+pub returns-in-Future : goal.returns-in-Future
 unfolding minimum_rate
-returns-then-is_future c = search (flags, rules)
+returns-in-Future c = rw c.in-Future.is c.future_rate.ensures
 
-pub returns-then-is_option : goal.returns-then-is_option
+pub returns-in-Call : goal.returns-in-Call
 unfolding minimum_rate
-returns-then-is_option c = search (flags, rules)
+returns-in-Call c = ⊎_elim (λ e. rw e c.option_rate.ensures) (λ e. rw e c.option_rate.ensures) c.in-Call.is
 
-pub returns-then-is_equity : goal.returns-then-is_equity
+pub returns-in-Equity : goal.returns-in-Equity
 unfolding minimum_rate
-returns-then-is_equity c = search (flags, rules)
+returns-in-Equity c = rw c.in-Equity.is c.equity_rate.ensures
 
-pub returns-then-is_warrant : goal.returns-then-is_warrant
+pub returns-in-Warrant : goal.returns-in-Warrant
 unfolding minimum_rate
-returns-then-is_warrant c = search (flags, rules)
+returns-in-Warrant c = rw c.in-Warrant.is c.warrant_rate.ensures
 
-pub returns : goal.returns
+pub returns-in-Rights : goal.returns-in-Rights
 unfolding minimum_rate
-returns c = search (flags, rules)
+returns-in-Rights c = rw c.in-Rights.is c.rights_rate.ensures

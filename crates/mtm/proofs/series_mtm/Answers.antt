@@ -1,34 +1,45 @@
-use Rattle.std.proofs.Common.{rules, ◌≡◌, pos, w64, ◌-ℤ◌, to_z, of_z, ◌∙◌, ap, arith}
-use Rattle.model.specs.Steps.Mtm.{mtm_of}
-use Rattle.classes.specs.Tables.{entry}
-use Rattle.mtm.proofs.series_mtm.Goals as goal
+use Rattle.holdings.specs.Seen.{class_day, class_net, class_dvp, class_book}
+use Rattle.holdings.specs.Facts.{class_given, class_budget, book_below}
+use Rattle.std.proofs.Common.{◌≡◌, pos, ◌-ℤ◌, ◌∙◌, sym, ap, arith}
 use Rattle.classes.specs.Sizes.{contracts_size}
 use Rattle.model.proofs.Limits.{closing_limit}
-use Rattle.model.specs.DayFile.{closing}
+use Rattle.model.specs.DayFile.{closing, multiplier, series_type, is_security}
 use Rattle.model.specs.Steps.Classes.{worth}
-use Rattle.model.specs.Steps.Positions.{open_net}
+use Rattle.model.specs.Steps.Mtm.{mtm_of}
 use Rattle.mtm.specs.Laws.{mtm_fits}
-use Rattle.numbers.specs.Abs.{fits_by}
-use Rattle.numbers.specs.Abs.{told}
+use Rattle.numbers.specs.Abs.{fits_by, told}
+use Rattle.numbers.specs.Tests.{cond_on}
+use Rattle.mtm.proofs.series_mtm.Goals as goal
 
 pub worth-value-requires : goal.worth-value-requires
 worth-value-requires c =
-    let d = c.args.day.now in
-    let k = c.args.book in
+    let h = c.args.class.now in
     let s = c.args.s in
-    let n = entry c.args.nets.now in
-    let net_is : to_z w64 (of_z w64 c.position_amount-net.result) ≡ (open_net (n) (k) (s)) = told c.position_amount-net.type_inv c.position_amount-net.ensures in
-    let price_is : to_z w64 (of_z w64 c.signed-price.result) ≡ (pos (closing (d) (s))) = told c.signed-price.type_inv (c.signed-price.ensures ∙ ap pos c.closing.ensures) in
-    let p = c.requires.book_bound in record { s_in_bounds = search rules; s_bound = (rw (net_is) (contracts_size (d) c.args.nets.now c.requires.given (k) 0 (s) p.0 (omega arith) p.1), rw (price_is) (closing_limit (d) c.requires.given.day.rows (s) p.1)) }
+    let e = c.series_at-series.ensures in
+    let w = class_given h in
+    let net = told c.net.type_inv c.net.ensures in
+    let price = told c.signed-price.type_inv (c.signed-price.ensures ∙ ap pos (c.closing.ensures ∙ (λ i. closing (e.0 i) (e.1 i)))) in
+    let size : multiplier c.series_at-series.result.day.now c.series_at-series.result.place ≡ multiplier (class_day h) s = λ i. multiplier (e.0 i) (e.1 i) in
+    (rw (net, size) (contracts_size (class_day h) h.account.now.nets.now w (class_book h) 0 s (book_below h.book) (omega arith) c.requires), rw price (closing_limit (class_day h) w.day.rows s c.requires))
 
 pub sub-requires : goal.sub-requires
 sub-requires c =
-    let d = c.args.day.now in
-    let v = entry c.args.dvps.now in
-    let k = c.args.book in
-    let s = c.args.s in
-    let n = entry c.args.nets.now in
-    let net_is : to_z w64 (of_z w64 c.position_amount-net.result) ≡ (open_net (n) (k) (s)) = told c.position_amount-net.type_inv c.position_amount-net.ensures in
-    let price_is : to_z w64 (of_z w64 c.signed-price.result) ≡ (pos (closing (d) (s))) = told c.signed-price.type_inv (c.signed-price.ensures ∙ ap pos c.closing.ensures) in
-    let value_is : to_z w64 (of_z w64 c.worth-value.result) -ℤ to_z w64 (of_z w64 c.position_amount.result) ≡ (mtm_of (d) (n) (v) (k) (s)) = λ i. told c.worth-value.type_inv (c.worth-value.ensures ∙ (λ j. worth (d) (s) (net_is j) (price_is j))) i -ℤ told c.position_amount.type_inv c.position_amount.ensures i in
-    fits_by (value_is) (mtm_fits (d) c.args.nets.now c.requires.given (k) (s) c.requires.book_bound.0 c.requires.book_bound.1 (v) c.requires.budget)
+    let h = c.args.class.now in
+    let e = c.series_at-series.ensures in
+    let net = told c.net.type_inv c.net.ensures in
+    let price = told c.signed-price.type_inv (c.signed-price.ensures ∙ ap pos (c.closing.ensures ∙ (λ i. closing (e.0 i) (e.1 i)))) in
+    let value = told c.worth-value.type_inv (c.worth-value.ensures ∙ (λ i. worth (e.0 i) (e.1 i) (net i) (price i))) in
+    let dvp = told c.dvp.type_inv c.dvp.ensures in
+    fits_by (λ i. value i -ℤ dvp i) (mtm_fits (class_day h) h.account.now.nets.now (class_given h) (class_book h) c.args.s (book_below h.book) c.requires (class_dvp h) (class_budget h))
+
+pub returns : goal.returns
+returns c =
+    let h = c.args.class.now in
+    let e = c.series_at-series.ensures in
+    let net = told c.net.type_inv c.net.ensures in
+    let price = told c.signed-price.type_inv (c.signed-price.ensures ∙ ap pos (c.closing.ensures ∙ (λ i. closing (e.0 i) (e.1 i)))) in
+    let value = told c.worth-value.type_inv (c.worth-value.ensures ∙ (λ i. worth (e.0 i) (e.1 i) (net i) (price i))) in
+    let dvp = told c.dvp.type_inv c.dvp.ensures in
+    let security = sym (λ i. is_security (series_type (e.0 i) (e.1 i))) ∙ sym c.is_security.ensures ∙ c.if-not-is_security.false in
+    told c.sub.type_inv (c.sub.ensures ∙ (λ i. value i -ℤ dvp i))
+    ∙ cond_on _ (mtm_of (class_day h) (class_net h) (class_dvp h) (class_book h) c.args.s) (pos 0) security

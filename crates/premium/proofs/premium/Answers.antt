@@ -1,53 +1,32 @@
-use Rattle.std.proofs.Common.{rules, ◌≡◌, ◌+◌, ◌≤◌, w64, ◌+ℤ◌, to_z, of_z, ◌∙◌, arith}
+use Rattle.holdings.specs.Seen.{class_day, class_net, class_book, class_from, class_to}
+use Rattle.holdings.specs.Facts.{class_given, class_range, book_below}
+use Rattle.std.proofs.Common.{◌+◌, ◌≤◌, ◌+ℤ◌, ◌∙◌, sym, ap, arith}
 use Rattle.model.specs.DayFile.{series_count}
-use Rattle.classes.specs.Tables.{entry}
-use Rattle.classes.specs.Range.{Range}
-use Rattle.premium.proofs.premium.Goals as goal
 use Rattle.model.proofs.Bounds.{premium_so_far}
-use Rattle.numbers.specs.Abs.{fits_by}
-use Rattle.numbers.specs.Abs.{told}
-use Rattle.premium.specs.Laws.{premium_end}
-use Rattle.premium.specs.Laws.{premium_start}
-use Rattle.premium.specs.Laws.{premium_to}
-use Rattle.premium.specs.Laws.{premium_turn}
+use Rattle.numbers.specs.Abs.{fits_by, told}
+use Rattle.premium.specs.Laws.{premium_start, premium_turn, premium_end, premium_to}
+use Rattle.premium.proofs.premium.Goals as goal
 
 pub loop-s-init : goal.loop-s-init
 loop-s-init c =
-    let d = c.args.day.now in
-    let n = entry c.args.nets.now in
-    let k = c.args.book in
-    let cls = c.args.c in
-    let r : Range d cls c.args.a c.args.b = c.requires.range in
-    (search rules, search rules, premium_start (d) (n) (k) (cls) c.args.a c.args.b (r))
+    let h = c.args.class.now in
+    premium_start (class_day h) (class_net h) (class_book h) h.class (class_from h) (class_to h) (class_range h) ∙ ap (premium_to (class_day h) (class_net h) (class_book h) h.class) (sym c.series-series.ensures.range.0)
 
 pub add-sum-requires : goal.add-sum-requires
 add-sum-requires c =
-    let d = c.args.day.now in
-    let n = entry c.args.nets.now in
-    let v = c.requires.given.dvp in
-    let k = c.args.book in
-    let cls = c.args.c in
-    let r : Range d cls c.args.a c.args.b = c.requires.range in
-    let next_is : to_z w64 c.loop-s.sum-bits +ℤ to_z w64 (of_z w64 c.series_premium.result) ≡ (premium_to (d) (n) (k) (cls) (c.loop-s.s + 1)) = (λ i. c.loop-s.invariant.2 i +ℤ told c.series_premium.type_inv c.series_premium.ensures i) ∙ premium_turn (d) (n) (k) (cls) c.args.a c.args.b (r) c.loop-s.s c.loop-s.invariant.0 (omega arith) in
-    let m : c.loop-s.s + 1 ≤ series_count (d) = omega arith in
-    fits_by (next_is)
-    (omega (arith, premium_so_far (d) (n) (v) c.requires.given.day.rows c.requires.given.budget (k) (cls) (c.loop-s.s + 1) (omega arith) (r).class m))
+    let h = c.args.class.now in
+    let w = class_given h in
+    let next = (λ i. c.loop-s.invariant i +ℤ told c.series_premium.type_inv c.series_premium.ensures i) ∙ premium_turn (class_day h) (class_net h) (class_book h) h.class (class_from h) (class_to h) (class_range h) c.loop-s.s (omega arith) (omega arith) in
+    let m : c.loop-s.s + 1 ≤ series_count (class_day h) = omega arith in
+    fits_by next (omega (arith, premium_so_far (class_day h) (class_net h) w.dvp w.day.rows w.budget (class_book h) h.class (c.loop-s.s + 1) (book_below h.book) (class_range h).class m))
 
 pub loop-s-preserved : goal.loop-s-preserved
 loop-s-preserved c =
-    let d = c.args.day.now in
-    let n = entry c.args.nets.now in
-    let k = c.args.book in
-    let cls = c.args.c in
-    let r : Range d cls c.args.a c.args.b = c.requires.range in
-    let next_is : to_z w64 c.loop-s.sum-bits +ℤ to_z w64 (of_z w64 c.series_premium.result) ≡ (premium_to (d) (n) (k) (cls) (c.loop-s.s + 1)) = (λ i. c.loop-s.invariant.2 i +ℤ told c.series_premium.type_inv c.series_premium.ensures i) ∙ premium_turn (d) (n) (k) (cls) c.args.a c.args.b (r) c.loop-s.s c.loop-s.invariant.0 (omega arith) in
-    (search rules, search rules, told c.add-sum.type_inv (c.add-sum.ensures ∙ next_is))
+    let h = c.args.class.now in
+    let next = (λ i. c.loop-s.invariant i +ℤ told c.series_premium.type_inv c.series_premium.ensures i) ∙ premium_turn (class_day h) (class_net h) (class_book h) h.class (class_from h) (class_to h) (class_range h) c.loop-s.s (omega arith) (omega arith) in
+    told c.add-sum.type_inv (c.add-sum.ensures ∙ next)
 
 pub returns : goal.returns
 returns c =
-    let d = c.args.day.now in
-    let n = entry c.args.nets.now in
-    let k = c.args.book in
-    let cls = c.args.c in
-    let r : Range d cls c.args.a c.args.b = c.requires.range in
-    c.loop-s.invariant.2 ∙ premium_end (d) (n) (k) (cls) c.args.a c.args.b (r) c.loop-s.s (omega arith)
+    let h = c.args.class.now in
+    c.loop-s.invariant ∙ premium_end (class_day h) (class_net h) (class_book h) h.class (class_from h) (class_to h) (class_range h) c.loop-s.s (omega arith)

@@ -1,10 +1,8 @@
-use Rattle.std.proofs.Common.{◌-◌, ◌≡◌, ◌≤◌}
+use Rattle.std.proofs.Common.{◌≡◌}
 use Rattle.classes.specs.Tables.{entry}
-use Rattle.presence.proofs.groups_held.Given as goal
+use Rattle.positions.specs.Books.{book_number}
 use Rattle.presence.specs.Presence.{groups_to}
+use Rattle.presence.proofs.groups_held.Given as goal
 
 abbrev pub invariant-loop-c : goal.invariant-loop-c
-invariant-loop-c l = (l.c ≤ l.classes) × (l.present ≡ groups_to l.day (entry l.nets) (entry l.dvps) l.book l.c)
-
-abbrev pub decreases-loop-c : goal.decreases-loop-c
-decreases-loop-c l = l.classes - l.c
+invariant-loop-c l = l.present ≡ groups_to l.day.words.now (entry l.nets) (entry l.dvps) (book_number l.book) l.c

@@ -1,9 +1,9 @@
-use Rattle.std.proofs.Common.{◌∷◌, [], ◌∙◌}
-use Rattle.numbers.specs.Put.{put}
+use Rattle.std.proofs.Common.{◌∷◌, [], ◌∙◌, arith}
+use Rattle.numbers.specs.Put.{put_copied}
+use Rattle.model.specs.Words.{word}
 use Rattle.report_head.proofs.write_maps.Goals as goal
-use Rattle.line_words.specs.Amounts.{three_stores}
 
 pub returns : goal.returns
 returns c =
-    three_stores c.args.memory.now 0 _ _ _ c.requires.in_bounds
-    ∙ (λ i. put 0 (c.word.ensures i ∷ c.word-2.ensures i ∷ c.word-3.ensures i ∷ []) c.args.memory.now)
+    let head = c.copy_from_slice.ensures.after ∙ (λ i. c.word.ensures i ∷ c.word-2.ensures i ∷ c.word-3.ensures i ∷ []) in
+    put_copied 0 3 (word 1 c.args.count ∷ word 4 c.args.ordinary ∷ word 4 c.args.fail ∷ []) c.args.memory.now _ head (omega arith)

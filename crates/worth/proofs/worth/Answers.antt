@@ -1,12 +1,22 @@
-use Rattle.std.proofs.Common.{◌≡◌, pos, ◌*ℤ◌, w64, to_z, of_z, ◌∙◌, ap, to_z-of_z, arith}
+use Rattle.std.proofs.Common.{◌≡◌, ◌≤◌, refl, arith, ◌∙◌, ap, ◌*ℤ◌, pos, nat_abs, to_z-of_z}
 use Rattle.model.specs.DayFile.{multiplier}
+use Rattle.model.specs.Limits.{contracts_limit, price_limit}
+use Rattle.numbers.specs.Abs.{nat_abs-*}
+use Rattle.numbers.specs.Machine.{mul_fits, mul_is}
 use Rattle.worth.proofs.worth.Goals as goal
-use Rattle.model.proofs.Bounds.{worth_bound}
-use Rattle.model.specs.Limits.{most_records}
-use Rattle.model.specs.Steps.Classes.{worth}
-use Rattle.numbers.specs.Abs.{fits_by}
-use Rattle.numbers.specs.Abs.{told}
 
-pub mul-requires : goal.mul-requires
-mul-requires c =
-    fits_by ((let product_is_h : to_z w64 (of_z w64 c.contracts.result) *ℤ to_z w64 (of_z w64 c.args.price) ≡ (worth c.args.day.now c.args.s c.args.net c.args.price) = λ i. told c.contracts.type_inv (c.contracts.ensures ∙ ap (λ z. z *ℤ pos (multiplier c.args.day.now c.args.s)) (to_z-of_z c.ranges.net)) i *ℤ to_z-of_z c.ranges.price i in product_is_h)) (omega (arith, worth_bound c.args.day.now c.args.s c.args.net c.args.price most_records c.requires.s_bound.0 c.requires.s_bound.1))
+pub overflow_mul-result : goal.overflow_mul-result
+overflow_mul-result c =
+    let m = multiplier c.args.series.now.day.now c.args.series.now.place in
+    let held = c.contracts.ensures ∙ ap (λ z. z *ℤ pos m) (to_z-of_z c.ranges.net) in
+    let price : c.args.price ≡ c.args.price = refl in
+    let few : nat_abs (c.args.net *ℤ pos m) ≤ contracts_limit = rw (nat_abs-* c.args.net (pos m)) c.requires.0 in
+    mul_fits held price contracts_limit price_limit few c.requires.1 (omega arith) (omega arith) (omega arith)
+
+pub returns : goal.returns
+returns c =
+    let m = multiplier c.args.series.now.day.now c.args.series.now.place in
+    let held = c.contracts.ensures ∙ ap (λ z. z *ℤ pos m) (to_z-of_z c.ranges.net) in
+    let price : c.args.price ≡ c.args.price = refl in
+    let few : nat_abs (c.args.net *ℤ pos m) ≤ contracts_limit = rw (nat_abs-* c.args.net (pos m)) c.requires.0 in
+    mul_is held price contracts_limit price_limit few c.requires.1 (omega arith) (omega arith) (omega arith)

@@ -1,16 +1,13 @@
-use Rattle.std.proofs.Common.{◌-◌, ◌≡◌, cond, ◌+◌, ◌^◌, ◌<◌, ℕ, ◌*◌, ◌≤◌, length}
-use Rattle.model.specs.Report.{book_map}
-use Rattle.classes.specs.Starts.{start_table}
-use Rattle.classes.specs.Tables.{entry}
-use Rattle.model.proofs.Accepted.{DayRows}
-use Rattle.model.specs.Limits.{group_count}
-use Rattle.books.proofs.maps.book_map.Given as goal
-use Rattle.model.specs.Steps.Lines.{has_line}
+use Rattle.positions.specs.Books.{book_number}
+use Rattle.std.proofs.Common.{◌≡◌, ◌^◌}
 use Rattle.numbers.specs.Maps.{map_below}
+use Rattle.numbers.specs.Table.{entry}
+use Rattle.model.specs.Steps.Lines.{has_line}
+use Rattle.books.proofs.maps.book_map.Given as goal
 
 abbrev pub invariant-loop-g : goal.invariant-loop-g
 invariant-loop-g l =
-    (l.g ≤ group_count) × (l.map ≡ map_below (has_line l.day (entry l.nets) (entry l.dvps) l.book) l.g) × (l.bit ≡ 2 ^ l.g)
-
-abbrev pub decreases-loop-g : goal.decreases-loop-g
-decreases-loop-g l = group_count - l.g
+    record {
+      map : l.map ≡ map_below (has_line l.day.words.now (entry l.nets) (entry l.dvps) (book_number l.fn.book)) l.g;
+      bit : l.bit ≡ 2 ^ l.g;
+    }

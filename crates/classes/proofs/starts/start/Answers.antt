@@ -1,21 +1,15 @@
-use Rattle.std.proofs.Common.{rules, ◌∙◌, arith}
+use Rattle.std.proofs.Common.{rules, ℕ, ◌∙◌, ap}
+use Rattle.std.specs.Prelude.{unwrap_or}
+use Rattle.numbers.specs.Finding.{find_from}
+use Rattle.numbers.specs.Scan.{first_bad}
+use Rattle.classes.specs.Range.{start_of}
 use Rattle.classes.specs.Starts.{reached}
 use Rattle.classes.proofs.starts.start.Goals as goal
-use Rattle.classes.specs.Starts.{start_hit}
-use Rattle.classes.specs.Starts.{start_none}
-use Rattle.numbers.specs.Scan.{scan_more}
-
-pub returns-then-reaches : goal.returns-then-reaches
-returns-then-reaches c =
-    start_hit c.args.day.now c.args.c c.loop-s.s c.loop-s.invariant.2 _ c.reaches.ensures c.if-reaches.true (omega arith)
-
-pub loop-s-preserved : goal.loop-s-preserved
-loop-s-preserved c = (
-  search rules,
-  search rules,
-  scan_more (reached c.args.day.now c.args.c) c.loop-s.s _ c.loop-s.invariant.2 c.reaches.ensures c.if-reaches.false,
-)
 
 pub returns : goal.returns
+unfolding start_of
 returns c =
-    c.loop-s.invariant.0 ∙ start_none c.args.day.now c.args.c c.loop-s.s c.loop-s.invariant.2 (omega arith) (omega arith)
+    let found = find_from _ (reached c.args.day.now c.args.c) c.find.ensures.ran (λ x v q k. search rules) c.requires.from_value (search rules) in
+    c.unwrap_or.ensures
+    ∙ (λ i. unwrap_or (found i) c.series_count-count.result)
+    ∙ ap (λ (n : ℕ). unwrap_or (first_bad (reached c.args.day.now c.args.c) n) n) c.series_count-count.ensures

@@ -1,8 +1,9 @@
-use Rattle.std.proofs.Common.{rules, ◌∙◌}
-use Rattle.classes.specs.Tables.{entry}
+use Rattle.holdings.specs.Seen.{day_of, net_of, dvp_of}
+use Rattle.positions.specs.Books.{book_number}
+use Rattle.std.proofs.Common.{◌∙◌}
 use Rattle.margin.proofs.group.group_amounts.Goals as goal
 use Rattle.margin.specs.Groups.{none_below}
 
 pub loop-c-init : goal.loop-c-init
 loop-c-init c =
-    (search rules, c.new-sum.ensures ∙ none_below c.args.day.now (entry c.args.nets.now) (entry c.args.dvps.now) c.args.book c.args.g)
+    (c.new-sum.ensures ∙ none_below (day_of c.args.account.now) (net_of c.args.account.now) (dvp_of c.args.account.now) (book_number c.args.book) c.args.g)

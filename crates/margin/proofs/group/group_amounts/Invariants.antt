@@ -1,11 +1,8 @@
-use Rattle.std.proofs.Common.{◌-◌, ◌≡◌, ◌≤◌}
-use Rattle.classes.specs.Tables.{entry}
+use Rattle.std.proofs.Common.{◌≡◌}
+use Rattle.holdings.specs.Seen.{day_of, net_of, dvp_of}
+use Rattle.positions.specs.Books.{book_number}
 use Rattle.margin.specs.Groups.{amounts_below}
 use Rattle.margin.proofs.group.group_amounts.Given as goal
 
 abbrev pub invariant-loop-c : goal.invariant-loop-c
-invariant-loop-c l =
-    (l.c ≤ l.classes) × (l.sum ≡ amounts_below l.day (entry l.nets) (entry l.dvps) l.book l.g l.c)
-
-abbrev pub decreases-loop-c : goal.decreases-loop-c
-decreases-loop-c l = l.classes - l.c
+invariant-loop-c l = l.sum ≡ amounts_below (day_of l.account) (net_of l.account) (dvp_of l.account) (book_number l.book) l.g l.c

@@ -1,34 +1,21 @@
+use Rattle.holdings.specs.Seen.{day_of, net_of, dvp_of}
+use Rattle.holdings.specs.Facts.{day_accepted, budget, book_below}
+use Rattle.positions.specs.Books.{book_number}
 use Rattle.std.proofs.Math.IntN.{+ℤ_idl}
-use Rattle.std.proofs.Common.{◌≡◌, [], ◌∷◌, ◌≤◌, pos, nat_abs, w64, ◌-ℤ◌, to_z, of_z, subst, sym, le_refl, arith, ◌∙◌, ap, neg_ℤ}
-use Rattle.model.specs.Limits.{worth_limit}
-use Rattle.classes.specs.Tables.{entry}
+use Rattle.std.proofs.Common.{◌≡◌, [], ◌∷◌, ◌≤◌, pos, nat_abs, w64, ◌-ℤ◌, to_z, of_z, subst, sym, le_refl, arith, ◌∙◌, ap, neg_ℤ, refl}
+use Rattle.model.specs.Limits.{worth_limit, margin_limit}
 use Rattle.margin.proofs.line.group_line.Goals as goal
-use Rattle.std.proofs.Common.{refl}
-use Rattle.classes.specs.Tables.{given}
-use Rattle.margin.specs.Groups.{Small}
-use Rattle.margin.specs.Groups.{below_small}
-use Rattle.margin.specs.Lines.{line_is}
-use Rattle.margin.specs.Lines.{requirement-size}
-use Rattle.margin.specs.Lines.{requirement_of}
-use Rattle.margin.specs.Lines.{sum-size}
-use Rattle.margin.specs.Lines.{sum_of}
+use Rattle.margin.specs.Groups.{Small, below_small}
+use Rattle.margin.specs.Lines.{line_is, requirement-size, requirement_of, sum-size, sum_of}
 use Rattle.margin.specs.declared.group.Amounts.{Amounts}
 use Rattle.model.specs.DayFile.{class_count}
-use Rattle.model.specs.Limits.{margin_limit}
 use Rattle.model.specs.Steps.Margin.{margin_of}
-use Rattle.numbers.specs.Abs.{back}
-use Rattle.numbers.specs.Abs.{fits_by}
-use Rattle.numbers.specs.Abs.{nat_abs-neg}
-use Rattle.numbers.specs.Abs.{told}
-
-pub group_amounts-sums-requires : goal.group_amounts-sums-requires
-group_amounts-sums-requires c =
-    record { given = given c.args.day.now c.args.nets.now (entry c.args.dvps.now) c.requires.day_rows c.requires.budget; budget = c.requires.budget; book_bound = c.requires.book_bound; starts_value = c.requires.starts_value }
+use Rattle.numbers.specs.Abs.{back, fits_by, nat_abs-neg, told}
 
 pub group_sum-total-requires : goal.group_sum-total-requires
 group_sum-total-requires c =
     let a : Amounts = c.group_amounts-sums.result in
-    let small : Small a = subst Small (sym c.group_amounts-sums.ensures) (below_small c.args.day.now (entry c.args.nets.now) (entry c.args.dvps.now) c.args.book c.args.g c.requires.day_rows c.requires.budget c.requires.book_bound.0 (class_count c.args.day.now) c.requires.book_bound.1 (le_refl (class_count c.args.day.now))) in
+    let small : Small a = subst Small (sym c.group_amounts-sums.ensures) (below_small (day_of c.args.account.now) (net_of c.args.account.now) (dvp_of c.args.account.now) (book_number c.args.book) c.args.g (day_accepted c.args.account.now).rows (budget c.args.account.now) (book_below c.args.book) (class_count (day_of c.args.account.now)) c.requires (le_refl (class_count (day_of c.args.account.now)))) in
     let spread_is : to_z w64 (of_z w64 a.spread) ≡ a.spread = back refl (omega (arith, small.spread_small)) in
     let mtm_is : to_z w64 (of_z w64 a.mtm) ≡ a.mtm = back refl (omega (arith, small.mtm_small)) in
     let premium_is : to_z w64 (of_z w64 a.premium) ≡ a.premium = back refl (omega (arith, small.premium_small)) in
@@ -46,7 +33,7 @@ sub-requires c =
     let a : Amounts = c.group_amounts-sums.result in
     let r = requirement_of a.points.at a.minimum in
     let z = sum_of a.spread a.mtm a.premium r in
-    let small : Small a = subst Small (sym c.group_amounts-sums.ensures) (below_small c.args.day.now (entry c.args.nets.now) (entry c.args.dvps.now) c.args.book c.args.g c.requires.day_rows c.requires.budget c.requires.book_bound.0 (class_count c.args.day.now) c.requires.book_bound.1 (le_refl (class_count c.args.day.now))) in
+    let small : Small a = subst Small (sym c.group_amounts-sums.ensures) (below_small (day_of c.args.account.now) (net_of c.args.account.now) (dvp_of c.args.account.now) (book_number c.args.book) c.args.g (day_accepted c.args.account.now).rows (budget c.args.account.now) (book_below c.args.book) (class_count (day_of c.args.account.now)) c.requires (le_refl (class_count (day_of c.args.account.now)))) in
     let r_size : nat_abs r ≤ worth_limit = requirement-size a small in
     let total_size : nat_abs z ≤ margin_limit = sum-size a.spread a.mtm a.premium r small.spread_small small.mtm_small small.premium_small r_size in
     let spread_is : to_z w64 (of_z w64 a.spread) ≡ a.spread = back refl (omega (arith, small.spread_small)) in
@@ -60,7 +47,7 @@ sub-requires c =
 pub returns : goal.returns
 returns c =
     let a : Amounts = c.group_amounts-sums.result in
-    let small : Small a = subst Small (sym c.group_amounts-sums.ensures) (below_small c.args.day.now (entry c.args.nets.now) (entry c.args.dvps.now) c.args.book c.args.g c.requires.day_rows c.requires.budget c.requires.book_bound.0 (class_count c.args.day.now) c.requires.book_bound.1 (le_refl (class_count c.args.day.now))) in
+    let small : Small a = subst Small (sym c.group_amounts-sums.ensures) (below_small (day_of c.args.account.now) (net_of c.args.account.now) (dvp_of c.args.account.now) (book_number c.args.book) c.args.g (day_accepted c.args.account.now).rows (budget c.args.account.now) (book_below c.args.book) (class_count (day_of c.args.account.now)) c.requires (le_refl (class_count (day_of c.args.account.now)))) in
     let spread_is : to_z w64 (of_z w64 a.spread) ≡ a.spread = back refl (omega (arith, small.spread_small)) in
     let mtm_is : to_z w64 (of_z w64 a.mtm) ≡ a.mtm = back refl (omega (arith, small.mtm_small)) in
     let premium_is : to_z w64 (of_z w64 a.premium) ≡ a.premium = back refl (omega (arith, small.premium_small)) in
@@ -73,4 +60,4 @@ returns c =
     (λ i. spread_is i ∷ mtm_is i ∷ premium_is i ∷ requirement_is i
     ∷ told c.larger.type_inv (c.larger.ensures ∙ ap margin_of (total_is)) i
     ∷ told c.larger-2.type_inv (c.larger-2.ensures ∙ ap margin_of (told c.sub.type_inv (c.sub.ensures ∙ minus_is))) i ∷ [])
-    ∙ line_is y.day.now (entry y.nets.now) (entry y.dvps.now) y.book y.g (a) c.group_amounts-sums.ensures
+    ∙ line_is (day_of c.args.account.now) (net_of c.args.account.now) (dvp_of c.args.account.now) (book_number y.book) y.g (a) c.group_amounts-sums.ensures

@@ -1,33 +1,35 @@
-use Rattle.std.proofs.Common.{◌≡◌, w64, to_z, of_z, to_z-of_z, ◌∙◌, arith}
-use Rattle.model.specs.Steps.Spread.{spread_quantity}
-use Rattle.classes.specs.Tables.{entry}
+use Rattle.holdings.specs.Seen.{class_day, class_net, class_book}
+use Rattle.holdings.specs.Facts.{class_given, class_range, book_below}
+use Rattle.std.proofs.Common.{to_z-of_z, ◌∙◌}
+use Rattle.model.specs.DayFile.{spot_rate, non_spot_rate}
+use Rattle.model.proofs.Limits.{non_spot_rate_limit, spot_rate_limit}
+use Rattle.numbers.specs.Abs.{told}
+use Rattle.spread.specs.Laws.{quantity_size, spot_size_lem, spread_parts}
 use Rattle.spread.specs.Sides.{spread_amount}
 use Rattle.spread.proofs.amount.spread.Goals as goal
-use Rattle.model.proofs.Limits.{non_spot_rate_limit}
-use Rattle.model.proofs.Limits.{spot_rate_limit}
-use Rattle.model.specs.Steps.Spread.{spot_size}
-use Rattle.numbers.specs.Abs.{told}
-use Rattle.spread.specs.Laws.{quantity_size}
-use Rattle.spread.specs.Laws.{spot_size_lem}
-use Rattle.spread.specs.Laws.{spread_parts}
 
 pub spread_amount-requires : goal.spread_amount-requires
 spread_amount-requires c =
-    let q = spread_quantity c.args.day.now (entry c.args.nets.now) c.args.book c.args.c in
-    let quantity_is : to_z w64 (of_z w64 c.args.quantity) ≡ q = to_z-of_z c.ranges.quantity ∙ c.requires.quantity_value in
-    let spot_is : to_z w64 (of_z w64 c.spot_size-spot.result) ≡ (spot_size c.args.day.now (entry c.args.nets.now) c.args.book c.args.c) = told c.spot_size-spot.type_inv c.spot_size-spot.ensures in (
-      rw (spot_is) (spot_size_lem c.args.day.now c.args.nets.now c.requires.given c.args.book c.args.c (omega arith) c.requires.range.class),
-      rw (quantity_is) (quantity_size c.args.day.now c.args.nets.now c.requires.given c.args.book c.args.c (omega arith) c.requires.range.class),
-      rw c.spot_rate-spot_rate.ensures (spot_rate_limit c.args.day.now c.requires.given.day.rows c.args.c c.requires.range.class),
-      rw c.non_spot_rate-rate.ensures (non_spot_rate_limit c.args.day.now c.requires.given.day.rows c.args.c c.requires.range.class),
+    let h = c.args.class.now in
+    let d = class_day h in
+    let w = class_given h in
+    let r = class_range h in
+    let near = c.spot_rate-spot_rate.ensures ∙ (λ i. spot_rate (c.class-of.ensures.0 i) (c.class-of.ensures.1 i)) in
+    let far = c.non_spot_rate-rate.ensures ∙ (λ i. non_spot_rate (c.class-of.ensures.0 i) (c.class-of.ensures.1 i)) in (
+      rw (told c.spot_size-spot.type_inv c.spot_size-spot.ensures) (spot_size_lem d h.account.now.nets.now w (class_book h) h.class (book_below h.book) r.class),
+      rw (to_z-of_z c.ranges.quantity ∙ c.requires) (quantity_size d h.account.now.nets.now w (class_book h) h.class (book_below h.book) r.class),
+      rw near (spot_rate_limit d w.day.rows h.class r.class),
+      rw far (non_spot_rate_limit d w.day.rows h.class r.class),
     )
 
 pub returns : goal.returns
 returns c =
-    let q = spread_quantity c.args.day.now (entry c.args.nets.now) c.args.book c.args.c in
-    let quantity_is : to_z w64 (of_z w64 c.args.quantity) ≡ q = to_z-of_z c.ranges.quantity ∙ c.requires.quantity_value in
-    let spot_is : to_z w64 (of_z w64 c.spot_size-spot.result) ≡ (spot_size c.args.day.now (entry c.args.nets.now) c.args.book c.args.c) = told c.spot_size-spot.type_inv c.spot_size-spot.ensures in
+    let h = c.args.class.now in
+    let spot = told c.spot_size-spot.type_inv c.spot_size-spot.ensures in
+    let quantity = to_z-of_z c.ranges.quantity ∙ c.requires in
+    let near = c.spot_rate-spot_rate.ensures ∙ (λ i. spot_rate (c.class-of.ensures.0 i) (c.class-of.ensures.1 i)) in
+    let far = c.non_spot_rate-rate.ensures ∙ (λ i. non_spot_rate (c.class-of.ensures.0 i) (c.class-of.ensures.1 i)) in
     told c.spread_amount.type_inv
     (c.spread_amount.ensures
-    ∙ (λ i. spread_amount (spot_is i) (quantity_is i) (c.spot_rate-spot_rate.ensures i) (c.non_spot_rate-rate.ensures i))
-    ∙ spread_parts c.args.day.now (entry c.args.nets.now) c.args.book c.args.c)
+    ∙ (λ i. spread_amount (spot i) (quantity i) (near i) (far i))
+    ∙ spread_parts (class_day h) (class_net h) (class_book h) h.class)

@@ -1,11 +1,9 @@
 use Rattle.std.proofs.Common.{◌≡◌, w64, pos, ◌+ℤ◌, ◌-ℤ◌, ◌*ℤ◌, to_z, of_z, ap, ◌∙◌, to_z-of_z, arith}
 use Rattle.spread.specs.Sides.{spread_amount}
 use Rattle.spread.proofs.amount.spread_amount.Goals as goal
-use Rattle.numbers.specs.Abs.{fits_by}
-use Rattle.numbers.specs.Abs.{told}
+use Rattle.numbers.specs.Abs.{fits_by, told}
 use Rattle.numbers.specs.Extremes.{min_z}
-use Rattle.spread.specs.Laws.{far_margin}
-use Rattle.spread.specs.Laws.{spread_fits}
+use Rattle.spread.specs.Laws.{far_margin, spread_fits}
 
 pub mul-requires-3 : goal.mul-requires-3
 mul-requires-3 c =

@@ -2,8 +2,7 @@ use Rattle.std.proofs.Common.{◌≡◌, w64, pos, ◌-ℤ◌, to_z, of_z, to_z-
 use Rattle.model.specs.Steps.Spread.{left_over}
 use Rattle.spread.proofs.left.left_over.Goals as goal
 use Rattle.numbers.specs.Abs.{told}
-use Rattle.numbers.specs.Extremes.{max_z}
-use Rattle.numbers.specs.Extremes.{min_z}
+use Rattle.numbers.specs.Extremes.{max_z, min_z}
 
 pub returns : goal.returns
 unfolding left_over

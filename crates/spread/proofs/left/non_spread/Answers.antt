@@ -1,16 +1,9 @@
-use Rattle.std.proofs.Common.{refl}
-use Rattle.std.proofs.Common.{◌≡◌, ◌≤◌, nat_abs, ◌*◌, w64, ◌-ℤ◌, to_z, of_z, arith, neg_ℤ, to_z-of_z, ◌∙◌, ap}
-use Rattle.model.specs.Steps.Spread.{left_over}
+use Rattle.std.proofs.Common.{refl, ◌≡◌, ◌≤◌, nat_abs, ◌*◌, w64, ◌-ℤ◌, to_z, of_z, arith, neg_ℤ, to_z-of_z, ◌∙◌, ap}
+use Rattle.model.specs.Steps.Spread.{left_over, long_side, short_side}
 use Rattle.model.specs.Limits.{contracts_limit}
 use Rattle.spread.specs.Sides.{non_spread_of}
 use Rattle.spread.proofs.left.non_spread.Goals as goal
-use Rattle.model.specs.Steps.Spread.{long_side}
-use Rattle.model.specs.Steps.Spread.{short_side}
-use Rattle.numbers.specs.Abs.{back}
-use Rattle.numbers.specs.Abs.{fits_by}
-use Rattle.numbers.specs.Abs.{nat_abs--}
-use Rattle.numbers.specs.Abs.{nat_abs-neg}
-use Rattle.numbers.specs.Abs.{told}
+use Rattle.numbers.specs.Abs.{back, fits_by, nat_abs--, nat_abs-neg, told}
 use Rattle.numbers.specs.Extremes.{max-zero_abs}
 use Rattle.spread.specs.Laws.{left-size}
 

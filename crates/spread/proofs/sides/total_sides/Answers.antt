@@ -1,41 +1,46 @@
-use Rattle.std.proofs.Common.{rules, ◌≤◌, ◌+ℤ◌, ◌∙◌, arith, ap}
+use Rattle.holdings.specs.Seen.{class_day, class_net, class_book, class_from, class_to}
+use Rattle.holdings.specs.Facts.{class_given, class_range, book_below}
+use Rattle.std.proofs.Common.{◌≤◌, ◌+ℤ◌, ◌∙◌, sym, arith, ap}
 use Rattle.model.specs.DayFile.{series_count}
-use Rattle.classes.specs.Tables.{entry}
+use Rattle.model.specs.Steps.Spread.{short_before, long_before}
 use Rattle.spread.specs.Sides.{future_short, future_long}
+use Rattle.spread.specs.Laws.{short_start, short_turn, short_end, short-size, long_start, long_turn, long_end, long-size}
 use Rattle.spread.proofs.sides.total_sides.Goals as goal
-use Rattle.spread.specs.Laws.{long-size}
-use Rattle.spread.specs.Laws.{long_end}
-use Rattle.spread.specs.Laws.{long_start}
-use Rattle.spread.specs.Laws.{long_turn}
-use Rattle.spread.specs.Laws.{short-size}
-use Rattle.spread.specs.Laws.{short_end}
-use Rattle.spread.specs.Laws.{short_start}
-use Rattle.spread.specs.Laws.{short_turn}
 
 pub loop-s-init : goal.loop-s-init
-loop-s-init c = (
-  search rules,
-  search rules,
-  c.new-sum.ensures.0 ∙ short_start c.args.day.now (entry c.args.nets.now) c.args.book c.args.c c.args.a c.args.b c.requires.range,
-  c.new-sum.ensures.1 ∙ long_start c.args.day.now (entry c.args.nets.now) c.args.book c.args.c c.args.a c.args.b c.requires.range,
-)
+loop-s-init c =
+    let h = c.args.class.now in
+    let from = c.series-series.ensures.range.0 in
+    record {
+      short = c.new-sum.ensures.0 ∙ short_start (class_day h) (class_net h) (class_book h) h.class (class_from h) (class_to h) (class_range h) ∙ ap (short_before (class_day h) (class_net h) (class_book h) h.class) (sym from);
+      long = c.new-sum.ensures.1 ∙ long_start (class_day h) (class_net h) (class_book h) h.class (class_from h) (class_to h) (class_range h) ∙ ap (long_before (class_day h) (class_net h) (class_book h) h.class) (sym from);
+    }
 
 pub add-sum-requires : goal.add-sum-requires
 add-sum-requires c =
-    let m : c.loop-s.s ≤ series_count c.args.day.now = omega arith in record { given = search rules; book_bound = search rules; short_bound = (rw c.loop-s.invariant.2 (short-size c.args.day.now c.args.nets.now c.requires.given c.args.book c.args.c (omega arith) c.requires.range.class c.loop-s.s m), rw c.loop-s.invariant.3 (long-size c.args.day.now c.args.nets.now c.requires.given c.args.book c.args.c (omega arith) c.requires.range.class c.loop-s.s m)) }
+    let h = c.args.class.now in
+    let m : c.loop-s.s ≤ series_count (class_day h) = omega arith in
+    record {
+      s_bound = omega arith;
+      short_bound = (
+        rw c.loop-s.invariant.short (short-size (class_day h) h.account.now.nets.now (class_given h) (class_book h) h.class (book_below h.book) (class_range h).class c.loop-s.s m),
+        rw c.loop-s.invariant.long (long-size (class_day h) h.account.now.nets.now (class_given h) (class_book h) h.class (book_below h.book) (class_range h).class c.loop-s.s m),
+      );
+    }
 
 pub loop-s-preserved : goal.loop-s-preserved
-loop-s-preserved c = (
-  search rules,
-  search rules,
-  c.add-sum.ensures.0 ∙ ap (λ z. z +ℤ future_short c.args.day.now (entry c.args.nets.now) c.args.book c.loop-s.s) c.loop-s.invariant.2
-      ∙ short_turn c.args.day.now (entry c.args.nets.now) c.args.book c.args.c c.args.a c.args.b c.requires.range c.loop-s.s c.loop-s.invariant.0 (omega arith),
-  c.add-sum.ensures.1 ∙ ap (λ z. z +ℤ future_long c.args.day.now (entry c.args.nets.now) c.args.book c.loop-s.s) c.loop-s.invariant.3
-      ∙ long_turn c.args.day.now (entry c.args.nets.now) c.args.book c.args.c c.args.a c.args.b c.requires.range c.loop-s.s c.loop-s.invariant.0 (omega arith),
-)
+loop-s-preserved c =
+    let h = c.args.class.now in
+    record {
+      short = c.add-sum.ensures.0 ∙ ap (λ z. z +ℤ future_short (class_day h) (class_net h) (class_book h) c.loop-s.s) c.loop-s.invariant.short
+          ∙ short_turn (class_day h) (class_net h) (class_book h) h.class (class_from h) (class_to h) (class_range h) c.loop-s.s (omega arith) (omega arith);
+      long = c.add-sum.ensures.1 ∙ ap (λ z. z +ℤ future_long (class_day h) (class_net h) (class_book h) c.loop-s.s) c.loop-s.invariant.long
+          ∙ long_turn (class_day h) (class_net h) (class_book h) h.class (class_from h) (class_to h) (class_range h) c.loop-s.s (omega arith) (omega arith);
+    }
 
 pub returns : goal.returns
-returns c = (
-  c.loop-s.invariant.2 ∙ short_end c.args.day.now (entry c.args.nets.now) c.args.book c.args.c c.args.a c.args.b c.requires.range c.loop-s.s (omega arith),
-  c.loop-s.invariant.3 ∙ long_end c.args.day.now (entry c.args.nets.now) c.args.book c.args.c c.args.a c.args.b c.requires.range c.loop-s.s (omega arith),
-)
+returns c =
+    let h = c.args.class.now in (
+      c.loop-s.invariant.short ∙ short_end (class_day h) (class_net h) (class_book h) h.class (class_from h) (class_to h) (class_range h) c.loop-s.s (omega arith),
+      c.loop-s.invariant.long ∙ long_end (class_day h) (class_net h) (class_book h) h.class (class_from h) (class_to h) (class_range h) c.loop-s.s (omega arith),
+    )

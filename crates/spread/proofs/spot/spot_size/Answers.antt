@@ -1,37 +1,37 @@
-use Rattle.std.proofs.Common.{rules, ◌∙◌, arith, ap}
-use Rattle.classes.specs.Tables.{entry}
-use Rattle.spread.proofs.spot.spot_size.Goals as goal
+use Rattle.holdings.specs.Seen.{class_day, class_net, class_book, class_from, class_to}
+use Rattle.holdings.specs.Facts.{class_given, class_range, book_below}
+use Rattle.std.proofs.Common.{◌∙◌, arith, ap}
 use Rattle.classes.specs.Sizes.{net-size}
+use Rattle.model.specs.Steps.Spread.{held_future}
 use Rattle.numbers.specs.Abs.{told}
 use Rattle.numbers.specs.Extremes.{abs_z}
-use Rattle.spread.specs.Laws.{spot_hit}
-use Rattle.spread.specs.Laws.{spot_more}
-use Rattle.spread.specs.Laws.{spot_none}
-use Rattle.spread.specs.Laws.{spot_start}
+use Rattle.numbers.specs.Scan.{first_bad}
+use Rattle.spread.specs.Laws.{spot_hit, spot_more, spot_none, spot_start}
+use Rattle.spread.proofs.spot.spot_size.Goals as goal
 
 pub loop-s-init : goal.loop-s-init
 loop-s-init c =
-    (search rules, search rules, spot_start c.args.day.now (entry c.args.nets.now) c.args.book c.args.c c.args.a c.args.b c.requires.range)
+    let h = c.args.class.now in
+    ap (first_bad (held_future (class_day h) (class_net h) (class_book h) h.class)) c.series-series.ensures.range.0 ∙ spot_start (class_day h) (class_net h) (class_book h) h.class (class_from h) (class_to h) (class_range h)
 
 pub absolute-requires : goal.absolute-requires
 absolute-requires c =
-    rw (told c.position_amount.type_inv c.position_amount.ensures)
-    (omega (arith, net-size c.args.day.now c.args.nets.now c.requires.given c.args.book 0 c.loop-s.s (omega arith) (omega arith) (omega arith)))
+    let h = c.args.class.now in
+    rw (told c.net.type_inv c.net.ensures)
+    (omega (arith, net-size (class_day h) h.account.now.nets.now (class_given h) (class_book h) 0 c.loop-s.s (book_below h.book) (omega arith) (omega arith)))
 
 pub returns-then-held_future : goal.returns-then-held_future
 returns-then-held_future c =
-    told c.absolute.type_inv (c.absolute.ensures ∙ ap abs_z (told c.position_amount.type_inv c.position_amount.ensures))
-    ∙ spot_hit c.args.day.now (entry c.args.nets.now) c.args.book c.args.c c.args.a c.args.b c.requires.range c.loop-s.s _ c.loop-s.invariant.0 (omega arith)
-    c.loop-s.invariant.2 c.held_future.ensures c.if-held_future.true
+    let h = c.args.class.now in
+    told c.absolute.type_inv (c.absolute.ensures ∙ ap abs_z (told c.net.type_inv c.net.ensures))
+    ∙ spot_hit (class_day h) (class_net h) (class_book h) h.class (class_from h) (class_to h) (class_range h) c.loop-s.s _ (omega arith) (omega arith) c.loop-s.invariant c.held_future.ensures c.if-held_future.true
 
 pub loop-s-preserved : goal.loop-s-preserved
-loop-s-preserved c = (
-  search rules,
-  search rules,
-  spot_more c.args.day.now (entry c.args.nets.now) c.args.book c.args.c c.args.a c.args.b c.requires.range c.loop-s.s _ c.loop-s.invariant.0 (omega arith)
-      c.loop-s.invariant.2 c.held_future.ensures c.if-held_future.false,
-)
+loop-s-preserved c =
+    let h = c.args.class.now in
+    spot_more (class_day h) (class_net h) (class_book h) h.class (class_from h) (class_to h) (class_range h) c.loop-s.s _ (omega arith) (omega arith) c.loop-s.invariant c.held_future.ensures c.if-held_future.false
 
 pub returns : goal.returns
 returns c =
-    spot_none c.args.day.now (entry c.args.nets.now) c.args.book c.args.c c.args.a c.args.b c.requires.range c.loop-s.s (omega arith) c.loop-s.invariant.2
+    let h = c.args.class.now in
+    spot_none (class_day h) (class_net h) (class_book h) h.class (class_from h) (class_to h) (class_range h) c.loop-s.s (omega arith) c.loop-s.invariant

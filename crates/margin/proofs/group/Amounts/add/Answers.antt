@@ -1,11 +1,7 @@
-use Rattle.std.proofs.Common.{refl}
-use Rattle.std.proofs.Common.{◌≡◌, ◌≤◌, w64, ℤ, ◌+ℤ◌, to_z, of_z, nat_abs, ◌∙◌, arith, SFits}
+use Rattle.std.proofs.Common.{refl, ◌≡◌, ◌≤◌, w64, ℤ, ◌+ℤ◌, to_z, of_z, nat_abs, ◌∙◌, arith, SFits}
 use Rattle.margin.proofs.group.Amounts.add.Goals as goal
 use Rattle.model.specs.Limits.{mtm_limit}
-use Rattle.numbers.specs.Abs.{back}
-use Rattle.numbers.specs.Abs.{fits_by}
-use Rattle.numbers.specs.Abs.{nat_abs-+}
-use Rattle.numbers.specs.Abs.{told}
+use Rattle.numbers.specs.Abs.{back, fits_by, nat_abs-+, told}
 
 module _ (a b : ℤ) (h : nat_abs a ≤ mtm_limit) (k : nat_abs b ≤ mtm_limit) where
   sum_is : to_z w64 (of_z w64 a) +ℤ to_z w64 (of_z w64 b) ≡ a +ℤ b
