@@ -15,16 +15,12 @@ pub const LONGEST_REPORT: usize = FRAME_WORDS + LINE_WORDS * MOST_LINES;
 pub fn room(len: usize) -> usize
     ensures { result ≡ room_of len }
 {
-    let words = len / 4;
-    if words < LONGEST_REPORT {
-        return words;
-    }
-    LONGEST_REPORT
+    (len / 4).min(LONGEST_REPORT)
 }
 
 // The bytes of the first n words.
 pub fn encode_front(words: &[u32], n: usize, memory: &mut [u8])
-    requires { (n ≤ length words.now) × (4 * n ≤ length memory.old) × (n ≤ 1000000) }
+    requires { (n ≤ length words.now) × (4 * n ≤ length memory.old) }
     ensures { memory.new ≡ put 0 (bytes_of (take n words.now)) memory.old }
 {
     byte_words::encode(&words[..n], memory);

@@ -1,7 +1,6 @@
 -- What the text of an answer needs: a buffer for the longest text, and a report of no more lines than there can be.
-use Rattle.std.specs.Prelude.{List, ℕ, ◌+◌, ◌*◌, ◌≤◌}
-use Rattle.model.specs.declared.Answer.{Answer}
-use Rattle.model.specs.declared.Answer.TheVariants.{Report, Refused}
+use Rattle.std.specs.Prelude.{List, ℕ, ◌+◌, ◌*◌, ◌≤◌, Ok, Err}
+use Rattle.model.specs.Outcomes.{Answer}
 use Rattle.model.specs.Reading.{count_in}
 use Rattle.model.specs.Limits.{most_lines}
 use Rattle.text_lines.specs.Lines.{longest_line}
@@ -11,5 +10,5 @@ abbrev pub longest_text : ℕ
 longest_text = 28 + longest_line * most_lines + 72
 
 abbrev pub Room : Answer → List ℕ → Type 0
-Room (Report n) w = count_in w ≤ most_lines
-Room (Refused k) w = Unit
+Room (Ok n) w = count_in w ≤ most_lines
+Room (Err k) w = Unit

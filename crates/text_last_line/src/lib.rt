@@ -4,7 +4,7 @@
 ghost use Rattle.std.specs.Prelude.{◌≡◌};
 ghost use Rattle.model.specs.TextReading.{ended, refusal_of, place_read, refusal_read, account_read, fail_read, totals_read};
 
-use model::{AmountRead, NumberRead, ReportTotals, TextSays};
+use model::{ReportTotals, TextSays};
 use text_parts::fields::{read_amount, read_field};
 use text_parts::heads::has_head;
 
@@ -16,69 +16,59 @@ fn is_ended(text: &[u8]) -> bool
 }
 
 // A refusal by its number and place, where the text ends behind them.
-fn refusal(number: u64, place: u64, end: bool) -> TextSays
+fn refusal(number: u64, place: u64, end: bool) -> Option<TextSays>
     ensures { result ≡ refusal_of number place end }
 {
     if (0 < number) & (number < 4294967295) & (place < 4294967296) & end {
-        return TextSays::Refusal(number as u32, place as u32);
+        return Some(TextSays::Refusal(number as u32, place as u32));
     }
-    TextSays::Unreadable
+    None
 }
 
 // Behind a refusal's number: its place.
-fn read_place(number: u64, text: &[u8]) -> TextSays
+fn read_place(number: u64, text: &[u8]) -> Option<TextSays>
     ensures { result ≡ place_read number text.now }
 {
-    let NumberRead::Number(place, k) = read_field(text) else {
-        return TextSays::Unreadable;
-    };
+    let (place, k) = read_field(text)?;
     refusal(number, place, is_ended(&text[k..]))
 }
 
 // Behind the head of a refusal: its number and place.
-pub fn read_refusal(text: &[u8]) -> TextSays
+pub fn read_refusal(text: &[u8]) -> Option<TextSays>
     ensures { result ≡ refusal_read text.now }
 {
-    let NumberRead::Number(number, k) = read_field(text) else {
-        return TextSays::Unreadable;
-    };
+    let (number, k) = read_field(text)?;
     read_place(number, &text[k..])
 }
 
 // The last line of a report of n lines, behind its second total.
-fn read_account(n: u32, ordinary: i64, fail: i64, text: &[u8]) -> TextSays
+fn read_account(n: u32, ordinary: i64, fail: i64, text: &[u8]) -> Option<TextSays>
     ensures { result ≡ account_read n ordinary fail text.now }
 {
-    let AmountRead::Amount(account, k) = read_amount(text) else {
-        return TextSays::Unreadable;
-    };
-    if is_ended(&text[k..]) {
-        return TextSays::Report(ReportTotals {
-            lines: n,
-            ordinary: ordinary,
-            fail: fail,
-            account: account,
-        });
+    let (account, k) = read_amount(text)?;
+    if !is_ended(&text[k..]) {
+        return None;
     }
-    TextSays::Unreadable
+    Some(TextSays::Report(ReportTotals {
+        lines: n,
+        ordinary,
+        fail,
+        account,
+    }))
 }
 
 // Behind its first total.
-fn read_fail(n: u32, ordinary: i64, text: &[u8]) -> TextSays
+fn read_fail(n: u32, ordinary: i64, text: &[u8]) -> Option<TextSays>
     ensures { result ≡ fail_read n ordinary text.now }
 {
-    let AmountRead::Amount(fail, k) = read_amount(text) else {
-        return TextSays::Unreadable;
-    };
+    let (fail, k) = read_amount(text)?;
     read_account(n, ordinary, fail, &text[k..])
 }
 
 // Behind its head.
-pub fn read_totals(n: u32, text: &[u8]) -> TextSays
+pub fn read_totals(n: u32, text: &[u8]) -> Option<TextSays>
     ensures { result ≡ totals_read n text.now }
 {
-    let AmountRead::Amount(ordinary, k) = read_amount(text) else {
-        return TextSays::Unreadable;
-    };
+    let (ordinary, k) = read_amount(text)?;
     read_fail(n, ordinary, &text[k..])
 }

@@ -1,5 +1,5 @@
 -- Reading step by step: one byte or line more, as loops meet it, and that what is read lies within the text.
-use Rattle.std.specs.Prelude.{◌≡◌, refl, Bool, true, false, cond, ◌&&◌, List, [], ◌∷◌, ltb, leb, eqb, ℤ, pos, neg_ℤ, nat_abs, length, take, get_or}
+use Rattle.std.specs.Prelude.{◌≡◌, refl, Bool, true, false, cond, ◌&&◌, List, [], ◌∷◌, ltb, leb, eqb, ℤ, pos, neg_ℤ, nat_abs, length, take, get_or, Some, None, IfSome}
 use Rattle.std.proofs.Common.{sym, ◌∙◌, true≢false, add-one, length-drop, take_all, drop-cons, to_z, of_z, to_z-of_z}
 use Rattle.std.proofs.Math.Path.{ap}
 use Prim.Native.Nat.{ℕ, zero, suc, ◌+◌, ◌*◌, ◌-◌, ◌^◌, ◌≤◌, ◌<◌}
@@ -10,11 +10,7 @@ use Rattle.std.proofs.Math.ListN.{drop}
 use Rattle.std.proofs.Math.Seq.{drop-length}
 use Rattle.std.specs.Int.{w64}
 use Rattle.numbers.specs.Abs.{nat_abs-neg, sfits_abs}
-use Rattle.model.specs.declared.NumberRead.{NumberRead}
-use Rattle.model.specs.declared.NumberRead.TheVariants.{Number, NoNumber}
-use Rattle.model.specs.declared.AmountRead.{AmountRead}
-use Rattle.model.specs.declared.AmountRead.TheVariants.{Amount, NoAmount}
-use Rattle.model.specs.TextReading.{begins, is_digit, of_digits, digits_read, decimal_read, behind, field_read, plus, minus, amount_read, line_bytes, lines_bytes}
+use Rattle.model.specs.TextReading.{NumberRead, AmountRead, begins, is_digit, of_digits, digits_read, decimal_read, behind, field_read, plus, minus, amount_read, line_bytes, lines_bytes}
 use Rattle.numbers.specs.Tests.{and_left, and_right}
 
 -- the part of a text from byte k on
@@ -30,7 +26,7 @@ module _ (t : List ℕ) (n k : ℕ) where
       let s : suc k ≡ k + 1 = omega arith in
       rw (drop-cons t k 0 h, e, lt-ltb k 19 l) (ap (λ (i : ℕ). digits_read (10 * n + (get_or t k 0 - 48)) (k + 1) (drop i t)) s)
 
-  pub digit_twentieth : k < length t → is_digit (get_or t k 0) ≡ true → 19 ≤ k → digits_read n k (drop k t) ≡ NoNumber
+  pub digit_twentieth : k < length t → is_digit (get_or t k 0) ≡ true → 19 ≤ k → digits_read n k (drop k t) ≡ None
   unfolding digits_read
   digit_twentieth h e l = rw (drop-cons t k 0 h, e, le-ltb k 19 l)
 
@@ -63,13 +59,13 @@ head_within (h ∷ hs) [] e = absurd (true≢false (sym e))
 head_within (h ∷ hs) (c ∷ cs) e = omega (arith, head_within hs cs (and_right (eqb c h) (begins hs cs) e))
 
 abbrev used_by : NumberRead → ℕ
-used_by (Number n k) = k
-used_by NoNumber = 0
+used_by (Some x) = x.1
+used_by None = 0
 
 of_digits_used : (n k : ℕ) → used_by (of_digits n k) ≤ k
 of_digits_used n k = by (eqb k 0)
   where
-    by : (b : Bool) → used_by (cond b NoNumber (Number n k)) ≤ k
+    by : (b : Bool) → used_by (cond b None (Some (n, k))) ≤ k
     by true = omega arith
     by false = omega arith
 
@@ -78,14 +74,14 @@ unfolding digits_read
 digits_used [] n k = omega (arith, of_digits_used n k)
 digits_used (c ∷ t) n k = by (is_digit c) (ltb k 19) (digits_used t (10 * n + (c - 48)) (k + 1))
   where
-    by : (p q : Bool) → used_by (digits_read (10 * n + (c - 48)) (k + 1) t) ≤ k + 1 + length t → used_by (cond p (cond q (digits_read (10 * n + (c - 48)) (k + 1) t) NoNumber) (of_digits n k)) ≤ k + length (c ∷ t)
+    by : (p q : Bool) → used_by (digits_read (10 * n + (c - 48)) (k + 1) t) ≤ k + 1 + length t → used_by (cond p (cond q (digits_read (10 * n + (c - 48)) (k + 1) t) None) (of_digits n k)) ≤ k + length (c ∷ t)
     by true true h = omega arith
     by true false h = omega arith
     by false q h = omega (arith, of_digits_used n k)
 
 behind_used : (k : ℕ) (t : List ℕ) (x : NumberRead) → k ≤ length t → used_by x ≤ length (drop k t) → used_by (behind k x) ≤ length t
-behind_used k t (Number n j) h l = omega (arith, length-drop k t)
-behind_used k t NoNumber h l = omega arith
+behind_used k t (Some x) h l = omega (arith, length-drop k t)
+behind_used k t None h l = omega arith
 
 decimal_used : (k : ℕ) (t : List ℕ) → k ≤ length t → used_by (behind k (decimal_read (drop k t))) ≤ length t
 decimal_used k t h = behind_used k t (decimal_read (drop k t)) h (omega (arith, digits_used (drop k t) 0 0))
@@ -94,47 +90,51 @@ field_within : (t : List ℕ) → used_by (field_read t) ≤ length t
 unfolding field_read
 field_within t = by (begins (32 ∷ []) t) refl
   where
-    by : (b : Bool) → begins (32 ∷ []) t ≡ b → used_by (cond b (behind 1 (decimal_read (drop 1 t))) NoNumber) ≤ length t
+    by : (b : Bool) → begins (32 ∷ []) t ≡ b → used_by (cond b (behind 1 (decimal_read (drop 1 t))) None) ≤ length t
     by true e = decimal_used 1 t (head_within (32 ∷ []) t e)
     by false e = omega arith
 
-pub number_within : (t : List ℕ) (n k : ℕ) → decimal_read t ≡ Number n k → k ≤ length t
+pub number_within : (t : List ℕ) (n k : ℕ) → decimal_read t ≡ Some (n, k) → k ≤ length t
 number_within t n k e = omega (arith, ap used_by e, digits_used t 0 0)
 
 -- a field that was read: what it says, and that its bytes are the text's
 pub record FieldTold (t : List ℕ) (n k : ℕ) : Type 0 where
-  pub read : field_read t ≡ Number n k
+  pub read : field_read t ≡ Some (n, k)
   pub within : k ≤ length t
 
-pub field_told : {x : NumberRead} {t : List ℕ} {n k : ℕ} → x ≡ field_read t → x ≡ Number n k → FieldTold t n k
+pub field_told : {x : NumberRead} {t : List ℕ} {n k : ℕ} → x ≡ field_read t → x ≡ Some (n, k) → FieldTold t n k
 field_told {t = t} e f = let r = sym e ∙ f in record { read = r; within = omega (arith, ap used_by r, field_within t) }
+
+pub field_bound : (t : List ℕ) (x : NumberRead) → x ≡ field_read t → IfSome x (λ y. y.1 ≤ length t)
+field_bound t None e = tt
+field_bound t (Some y) e = let told : FieldTold t y.0 y.1 = field_told e refl in told.within
 
 -- an amount's bytes, and its size
 abbrev taken_by : AmountRead → ℕ
-taken_by (Amount z k) = k
-taken_by NoAmount = 0
+taken_by (Some x) = x.1
+taken_by None = 0
 
 abbrev size_of : AmountRead → ℕ
-size_of (Amount z k) = nat_abs z
-size_of NoAmount = 0
+size_of (Some x) = nat_abs x.0
+size_of None = 0
 
 abbrev Sound : AmountRead → ℕ → Type 0
 Sound x k = (taken_by x ≤ k) × (size_of x < 2 ^ 63)
 
 plus_sound : (x : NumberRead) → Sound (plus x) (used_by x)
-plus_sound NoNumber = (omega arith, omega arith)
-plus_sound (Number n k) = by (ltb n (2 ^ 63)) refl
+plus_sound None = (omega arith, omega arith)
+plus_sound (Some x) = by (ltb x.0 (2 ^ 63)) refl
   where
-    by : (b : Bool) → ltb n (2 ^ 63) ≡ b → Sound (cond b (Amount (pos n) k) NoAmount) k
-    by true e = (omega arith, ltb-true n (2 ^ 63) e)
+    by : (b : Bool) → ltb x.0 (2 ^ 63) ≡ b → Sound (cond b (Some (pos x.0, x.1)) None) x.1
+    by true e = (omega arith, ltb-true x.0 (2 ^ 63) e)
     by false e = (omega arith, omega arith)
 
 minus_sound : (x : NumberRead) → Sound (minus x) (used_by x)
-minus_sound NoNumber = (omega arith, omega arith)
-minus_sound (Number n k) = by (ltb 0 n && ltb n (2 ^ 63)) refl
+minus_sound None = (omega arith, omega arith)
+minus_sound (Some x) = by (ltb 0 x.0 && ltb x.0 (2 ^ 63)) refl
   where
-    by : (b : Bool) → (ltb 0 n && ltb n (2 ^ 63)) ≡ b → Sound (cond b (Amount (neg_ℤ (pos n)) k) NoAmount) k
-    by true e = (omega arith, rw (nat_abs-neg (pos n)) (ltb-true n (2 ^ 63) (and_right (ltb 0 n) (ltb n (2 ^ 63)) e)))
+    by : (b : Bool) → (ltb 0 x.0 && ltb x.0 (2 ^ 63)) ≡ b → Sound (cond b (Some (neg_ℤ (pos x.0), x.1)) None) x.1
+    by true e = (omega arith, rw (nat_abs-neg (pos x.0)) (ltb-true x.0 (2 ^ 63) (and_right (ltb 0 x.0) (ltb x.0 (2 ^ 63)) e)))
     by false e = (omega arith, omega arith)
 
 amount_sound : (t : List ℕ) → Sound (amount_read t) (length t)
@@ -149,11 +149,11 @@ amount_sound t = by (begins (32 ∷ 45 ∷ []) t) refl
 
 -- an amount that was read: the same, and that the machine's number is the amount
 pub record AmountTold (t : List ℕ) (z : ℤ) (k : ℕ) : Type 0 where
-  pub read : amount_read t ≡ Amount z k
+  pub read : amount_read t ≡ Some (z, k)
   pub within : k ≤ length t
   pub is : to_z w64 (of_z w64 z) ≡ z
 
-pub amount_told : {x : AmountRead} {t : List ℕ} {z : ℤ} {k : ℕ} → x ≡ amount_read t → x ≡ Amount z k → AmountTold t z k
+pub amount_told : {x : AmountRead} {t : List ℕ} {z : ℤ} {k : ℕ} → x ≡ amount_read t → x ≡ Some (z, k) → AmountTold t z k
 amount_told {t = t} {z = z} e f =
     let r = sym e ∙ f in
     record {
@@ -161,6 +161,10 @@ amount_told {t = t} {z = z} e f =
       within = omega (arith, ap taken_by r, (amount_sound t).0);
       is = to_z-of_z (sfits_abs z (omega (arith, ap size_of r, (amount_sound t).1)));
     }
+
+pub amount_bound : (t : List ℕ) (x : AmountRead) → x ≡ amount_read t → IfSome x (λ y. y.1 ≤ length t)
+amount_bound t None e = tt
+amount_bound t (Some y) e = let told : AmountTold t y.0 y.1 = amount_told e refl in told.within
 
 -- ---- lines
 
@@ -180,7 +184,7 @@ module _ (t : List ℕ) (i : ℕ) where
   unfolding line_bytes
   line_cut e = rw (ap (λ (k : ℕ). drop k t) e ∙ drop-length t)
 
-line_within : (t : List ℕ) → line_bytes t ≤ length t
+pub line_within : (t : List ℕ) → line_bytes t ≤ length t
 unfolding line_bytes
 line_within [] = omega arith
 line_within (c ∷ t) = by (eqb c 10) (line_within t)

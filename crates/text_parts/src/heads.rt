@@ -6,15 +6,5 @@ ghost use Rattle.model.specs.TextReading.{begins};
 pub fn has_head(text: &[u8], head: &[u8]) -> bool
     ensures { result ≡ begins head.now text.now }
 {
-    if text.len() < head.len() {
-        return false;
-    }
-    let mut i: usize = 0;
-    while i < head.len() {
-        if text[i] != head[i] {
-            return false;
-        }
-        i = i + 1;
-    }
-    true
+    text.starts_with(head)
 }

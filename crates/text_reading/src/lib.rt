@@ -4,56 +4,53 @@
 ghost use Rattle.std.specs.Prelude.{◌≡◌};
 ghost use Rattle.model.specs.TextReading.{last_read, lines_read, count_read, report_read, text_says};
 
-use model::{NumberRead, TextSays};
+use model::TextSays;
 use text_last_line::{read_refusal, read_totals};
 use text_parts::fields::read_field;
 use text_parts::heads::has_head;
 use text_parts::lines::lines_bytes;
-use words::index;
 
 // The most lines that a text can have.
 const MOST_LINES: u64 = line_words::MOST_LINES as u64;
 
 // The last line.
-fn read_last(n: u32, text: &[u8]) -> TextSays
+fn read_last(n: u32, text: &[u8]) -> Option<TextSays>
     ensures { result ≡ last_read n text.now }
 {
     if has_head(text, b"TOTAL") {
         return read_totals(n, &text[5..]);
     }
-    TextSays::Unreadable
+    None
 }
 
 // Behind the first line: n lines, which are passed over, and the last line.
-fn read_lines(n: u32, text: &[u8]) -> TextSays
+fn read_lines(n: u32, text: &[u8]) -> Option<TextSays>
     ensures { result ≡ lines_read n text.now }
 {
-    let at = lines_bytes(text, index(n));
+    let at = lines_bytes(text, n as usize);
     read_last(n, &text[at..])
 }
 
 // Behind the line count.
-fn read_count(n: u64, text: &[u8]) -> TextSays
+fn read_count(n: u64, text: &[u8]) -> Option<TextSays>
     ensures { result ≡ count_read n text.now }
 {
     if (n <= MOST_LINES) & has_head(text, b"\n") {
         return read_lines(n as u32, &text[1..]);
     }
-    TextSays::Unreadable
+    None
 }
 
 // Behind the head of a report.
-fn read_report(text: &[u8]) -> TextSays
+fn read_report(text: &[u8]) -> Option<TextSays>
     ensures { result ≡ report_read text.now }
 {
-    let NumberRead::Number(n, k) = read_field(text) else {
-        return TextSays::Unreadable;
-    };
+    let (n, k) = read_field(text)?;
     read_count(n, &text[k..])
 }
 
-// What a printed text says.
-pub fn read_text(text: &[u8]) -> TextSays
+// What a printed text says; None where it is neither a report nor a refusal.
+pub fn read_text(text: &[u8]) -> Option<TextSays>
     ensures { result ≡ text_says text.now }
 {
     if has_head(text, b"REFUSED") {
@@ -62,5 +59,5 @@ pub fn read_text(text: &[u8]) -> TextSays
     if has_head(text, b"MARGIN") {
         return read_report(&text[6..]);
     }
-    TextSays::Unreadable
+    None
 }

@@ -15,10 +15,7 @@ fn read_some<R: Read>(file: &mut Option<R>, buffer: &mut [u8]) -> Option<usize>
     ensures bytes { MatchOption result (Keeps (left R.remaining file.old) (left R.remaining file.new)) (λ n. Consumes (left R.remaining file.old) (left R.remaining file.new) (take n buffer.new)) }
     ensures end { IfSome result (λ n. n ≡ 0 → 0 < length buffer.new → IsAtEnd (left R.remaining file.new)) }
 {
-    match file {
-        Some(opened) => opened.read(buffer).ok(),
-        None => None,
-    }
+    file.as_mut()?.read(buffer).ok()
 }
 
 // The file's next bytes, until the buffer is full, the file ends or a read fails; how many there are.
@@ -27,6 +24,7 @@ pub fn read_full<R: Read>(file: &mut Option<R>, buffer: &mut [u8]) -> usize
     ensures opened { (IsNone file.old → IsNone file.new) × (IsSome file.old → IsSome file.new) }
     ensures bytes { Consumes (left R.remaining file.old) (left R.remaining file.new) (take result buffer.new) }
 {
+    // A read fills any part of what is left, so no range counts the reads.
     let mut done = 0;
     while done < buffer.len() {
         match read_some(file, &mut buffer[done..]) {
@@ -42,9 +40,6 @@ pub fn was_read<R: Read>(file: &mut Option<R>, full: bool) -> bool
     ensures opened { (IsNone file.old → result ≡ false) × (IsSome file.old → full ≡ true → result ≡ true) }
     ensures end { full ≡ false → result ≡ true → IsAtEnd (left R.remaining file.new) }
 {
-    if file.is_none() {
-        return false;
-    }
     let mut more = [0u8; 1];
-    full | (read_some(file, &mut more) == Some(0))
+    file.is_some() && (full || read_some(file, &mut more) == Some(0))
 }

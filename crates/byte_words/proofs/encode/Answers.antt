@@ -1,19 +1,17 @@
-use Rattle.std.proofs.Common.{◌∷◌, [], ◌*◌, arith, ◌∙◌, ap, get_or}
-use Rattle.numbers.specs.Put.{put}
+use Rattle.std.proofs.Common.{◌*◌, ◌∷◌, [], ℕ, List, arith, ◌∙◌, ap, get_or}
+use Rattle.numbers.specs.Put.{put, put_copied}
 use Rattle.model.specs.Bytes.{bytes_of}
 use Rattle.byte_words.proofs.encode.Goals as goal
-use Rattle.byte_words.specs.Words.{bytes_more}
-use Rattle.byte_words.specs.Words.{bytes_none}
+use Rattle.byte_words.specs.Words.{bytes_none, bytes_more}
 
 pub loop-i-init : goal.loop-i-init
-loop-i-init c = (omega arith, bytes_none c.args.bytes.now c.args.words.now)
+loop-i-init c = bytes_none c.args.bytes.now c.args.words.now
 
 pub loop-i-preserved : goal.loop-i-preserved
+unfolding bytes_of
 loop-i-preserved c =
-    let l = c in
-    let s = c in (
-      omega arith,
-      c.write_word.ensures
-          ∙ ap (put (4 * l.loop-i.i) (bytes_of (get_or s.args.words.now l.loop-i.i 0 ∷ []))) l.loop-i.invariant.1
-          ∙ bytes_more s.args.bytes.now s.args.words.now l.loop-i.i c.loop-i-test.true s.requires.0,
-    )
+    let i = c.loop-i.i in
+    let w : List ℕ = bytes_of (get_or c.args.words.now i 0 ∷ []) in
+    put_copied (4 * i) _ w c.loop-i.bytes _ (c.copy_from_slice.ensures.after ∙ c.to_le_bytes.ensures) (omega arith)
+    ∙ ap (put (4 * i) w) c.loop-i.invariant
+    ∙ bytes_more c.args.bytes.now c.args.words.now i c.loop-i-test.true c.requires

@@ -8,5 +8,5 @@ pub overflow_add-result : goal.overflow_add-result
 overflow_add-result c =
     let is : c.read_decimal.result ≡ decimal_read (drop c.args.k c.args.text.now) = c.read_decimal.ensures ∙ ap decimal_read (part c.args.k c.args.text.now) in
     let t = c.args.text.now in
-    let h = number_within (drop c.args.k t) c.in-Number.n c.in-Number.j (sym is ∙ c.in-Number.is) in
+    let h = number_within (drop c.args.k t) c.in_ok-n.n c.in_ok-n.j (sym is ∙ c.in_ok-n.was) in
     omega (arith, h, length-drop c.args.k t)

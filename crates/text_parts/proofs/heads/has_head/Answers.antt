@@ -1,6 +1,6 @@
-use Rattle.std.proofs.Common.{rules}
+use Rattle.std.proofs.Common.{◌∙◌}
+use Rattle.text_parts.proofs.Starts.{starts-begins}
 use Rattle.text_parts.proofs.heads.has_head.Goals as goal
-use Rattle.text_parts.specs.Heads.{short}
 
-pub returns-then-text-head : goal.returns-then-text-head
-returns-then-text-head c = short c.args.head.now c.args.text.now (search rules)
+pub returns : goal.returns
+returns c = c.starts_with.ensures.value ∙ starts-begins c.args.head.now c.args.text.now

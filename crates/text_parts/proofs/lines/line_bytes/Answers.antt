@@ -1,21 +1,15 @@
-use Rattle.std.proofs.Common.{rules, arith, ◌∙◌}
+use Rattle.std.proofs.Common.{sym, ◌∙◌, arith}
+use Rattle.text_parts.proofs.Starts.{line_found, line_whole}
+use Rattle.text_parts.specs.ReadingSteps.{line_within}
 use Rattle.text_parts.proofs.lines.line_bytes.Goals as goal
-use Rattle.text_parts.specs.ReadingSteps.{line-ends}
-use Rattle.text_parts.specs.ReadingSteps.{line_cut}
-use Rattle.text_parts.specs.ReadingSteps.{line_goes_on}
 
-pub returns-then-text-i-eq10 : goal.returns-then-text-i-eq10
-returns-then-text-i-eq10 c =
-    let l = c in
-    let t = l.args.text.now in
-    omega (arith, l.loop-i.invariant.1, line-ends t l.loop-i.i (search rules) c.if-text-i-eq10.true)
+pub overflow_add-result : goal.overflow_add-result
+overflow_add-result c =
+    let t = c.args.text.now in
+    omega (arith, line_found t c.in-Some.i (sym c.newline.ensures ∙ c.in-Some.is), line_within t)
 
-pub loop-i-preserved : goal.loop-i-preserved
-loop-i-preserved c =
-    let l = c in
-    (search rules, l.loop-i.invariant.1 ∙ line_goes_on l.args.text.now l.loop-i.i (search rules) c.if-text-i-eq10.false)
+pub returns-in-Some : goal.returns-in-Some
+returns-in-Some c = sym (line_found c.args.text.now c.in-Some.i (sym c.newline.ensures ∙ c.in-Some.is))
 
-pub returns : goal.returns
-returns c =
-    let l = c in
-    omega (arith, l.loop-i.invariant.1, line_cut l.args.text.now l.loop-i.i (omega arith))
+pub returns-in-None : goal.returns-in-None
+returns-in-None c = sym (line_whole c.args.text.now (sym c.newline.ensures ∙ c.in-None.is))

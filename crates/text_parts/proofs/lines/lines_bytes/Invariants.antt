@@ -1,9 +1,6 @@
-use Rattle.std.proofs.Common.{◌-◌, ◌≡◌, ◌≤◌}
+use Rattle.std.proofs.Common.{◌≡◌}
 use Rattle.model.specs.TextReading.{lines_bytes}
 use Rattle.text_parts.proofs.lines.lines_bytes.Given as goal
 
-abbrev pub invariant-loop-k : goal.invariant-loop-k
-invariant-loop-k l = (l.k ≤ l.n) × (l.at ≡ lines_bytes l.text l.k)
-
-abbrev pub decreases-loop-k : goal.decreases-loop-k
-decreases-loop-k l = l.n - l.k
+abbrev pub invariant-loop : goal.invariant-loop
+invariant-loop l = l.at ≡ lines_bytes l.text l.counter
