@@ -1,6 +1,6 @@
 -- Demand 3, said of the memories that two byte calls leave.
 use Rattle.std.specs.Prelude.{◌≡◌, List, ℕ, ◌/◌, ◌≤◌, ◌<◌, length}
-use Rattle.model.specs.declared.Answer.{Answer}
+use Rattle.model.specs.Outcomes.{Answer}
 use Rattle.model.specs.Bytes.{words_of, byte_answer, bytes_after}
 use Rattle.model.specs.Calls.{needed}
 use Rattle.model.specs.Locality.{Edit, LocalChange, ByteAccepted, ByteReordered}

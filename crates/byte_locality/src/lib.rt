@@ -5,6 +5,7 @@ ghost use Rattle.std.specs.Prelude.{◌≡◌, length};
 ghost use Rattle.model.specs.Bytes.{byte_answer, bytes_after};
 ghost use Rattle.byte_locality.specs.Edits.{LocalByteEdit, SameByteOrder};
 
+use byte_report::byte_report;
 use locality::Answers;
 
 // An edit in one group of one book changes its line alone.
@@ -12,8 +13,8 @@ pub fn byte_edits(day: &[u8], batch: &[u8], edited: &[u8], memory: &mut [u8], ot
     ensures local_byte_edit { LocalByteEdit day.now batch.now edited.now memory.old other.old memory.new other.new }
     ensures memory_after { (memory.new ≡ bytes_after day.now batch.now memory.old) × (other.new ≡ bytes_after day.now edited.now other.old) }
 {
-    byte_report::byte_report(day, batch, memory);
-    byte_report::byte_report(day, edited, other);
+    let _ = byte_report(day, batch, memory);
+    let _ = byte_report(day, edited, other);
 }
 
 // The order of the records changes nothing.
@@ -28,10 +29,8 @@ pub fn byte_orders(
     ensures memory_after { (memory.new ≡ bytes_after day.now batch.now memory.old) × (other.new ≡ bytes_after day.now reordered.now other.old) }
     ensures batch_value { (result.batch ≡ byte_answer day.now batch.now (length memory.old)) × (result.reordered ≡ byte_answer day.now reordered.now (length other.old)) }
 {
-    let answer = byte_report::byte_report(day, batch, memory);
-    let reordered_answer = byte_report::byte_report(day, reordered, other);
     Answers {
-        batch: answer,
-        reordered: reordered_answer,
+        batch: byte_report(day, batch, memory),
+        reordered: byte_report(day, reordered, other),
     }
 }

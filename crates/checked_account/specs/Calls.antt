@@ -1,11 +1,9 @@
 -- The answer once both files passed their own rows, and tables of the nets and DVPs in place of the batch's.
-use Rattle.std.specs.Prelude.{◌≡◌, List, ℕ, ℤ, length}
+use Rattle.std.specs.Prelude.{◌≡◌, List, ℕ, ℤ, length, Ok, Err}
 use Rattle.std.proofs.Math.Path.{refl}
 use Rattle.std.proofs.Common.{ap, ◌∙◌}
 use Rattle.numbers.specs.Table.{tabulate, length-tabulate}
-use Rattle.model.specs.declared.Answer.TheVariants.{Refused}
 use Rattle.model.specs.declared.Check.{Check}
-use Rattle.model.specs.declared.Verdict.TheVariants.{Passed, Failed}
 use Rattle.model.specs.DayChecks.{day_check}
 use Rattle.model.specs.BatchChecks.{batch_check}
 use Rattle.model.specs.Netting.{net, dvp, netting_check, position_count}
@@ -22,12 +20,12 @@ use Rattle.model.proofs.Whole.{AllAgree, table_agrees, report_same, needed_same,
 use Rattle.classes.specs.Tables.{entry}
 
 module _ (d b x : List ℕ) (room : ℕ) where
-  pub answer-nets : (k : Check) → day_check d ≡ Passed → batch_check d b ≡ Passed → netting_check d b ≡ Failed k → Refused k ≡ answer d b x room
+  pub answer-nets : (k : Check) → day_check d ≡ Ok tt → batch_check d b ≡ Ok tt → netting_check d b ≡ Err k → Err k ≡ answer d b x room
   unfolding answer verdict
   answer-nets k e q p = answer-passed _ _ _ _ _ refl e (answer-passed _ _ _ _ _ refl q (answer_failed _ _ _ k _ refl p))
 
   -- past row 30 the deposits' rows decide
-  pub answer-deposits : day_check d ≡ Passed → batch_check d b ≡ Passed → netting_check d b ≡ Passed → answer_of (deposit_check d x) (room_answer (needed d b) room) ≡ answer d b x room
+  pub answer-deposits : day_check d ≡ Ok tt → batch_check d b ≡ Ok tt → netting_check d b ≡ Ok tt → answer_of (deposit_check d x) (room_answer (needed d b) room) ≡ answer d b x room
   unfolding answer verdict
   answer-deposits e q p = answer-passed _ _ _ _ _ refl e (answer-passed _ _ _ _ _ refl q (answer-passed _ _ _ _ _ refl p (answer_last (deposit_check d x) _)))
 

@@ -1,6 +1,6 @@
 -- Demand 3, said of the memories that two calls over words leave.
 use Rattle.std.specs.Prelude.{◌≡◌, List, ℕ, ◌≤◌, ◌<◌, length}
-use Rattle.model.specs.declared.Answer.{Answer}
+use Rattle.model.specs.Outcomes.{Answer}
 use Rattle.model.specs.Calls.{Accepted, answer, memory_after, needed}
 use Rattle.model.specs.Locality.{Edit, DepositEdit, LocalChange, Reordered, DepositsReordered}
 use Rattle.model.proofs.Demand.{demand3}

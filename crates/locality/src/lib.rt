@@ -6,7 +6,7 @@ ghost use Rattle.std.specs.Prelude.{◌≡◌, length};
 ghost use Rattle.model.specs.Calls.{answer, memory_after};
 ghost use Rattle.locality.specs.Edits.{LocalEdit, SameOrder};
 
-use model::Answer;
+use model::Check;
 
 // An edit in one group of one book, of records and, in the ordinary book, of deposits, changes its line alone.
 pub fn report_edits(
@@ -21,15 +21,15 @@ pub fn report_edits(
     ensures local_edit { LocalEdit day.now batch.now edited.now deposits.now edited_deposits.now memory.old other.old memory.new other.new }
     ensures memory_after { (memory.new ≡ memory_after day.now batch.now deposits.now memory.old) × (other.new ≡ memory_after day.now edited.now edited_deposits.now other.old) }
 {
-    report::report(day, batch, deposits, memory);
-    report::report(day, edited, edited_deposits, other);
+    let _ = report::report(day, batch, deposits, memory);
+    let _ = report::report(day, edited, edited_deposits, other);
 }
 
 // The answers of two calls.
 #[derive(Drop)]
 pub struct Answers {
-    pub batch: Answer,
-    pub reordered: Answer,
+    pub batch: Result<usize, Check>,
+    pub reordered: Result<usize, Check>,
 }
 
 // The order of the records and of the deposits changes nothing.
@@ -46,10 +46,8 @@ pub fn report_orders(
     ensures memory_after { (memory.new ≡ memory_after day.now batch.now deposits.now memory.old) × (other.new ≡ memory_after day.now reordered.now reordered_deposits.now other.old) }
     ensures batch_value { (result.batch ≡ answer day.now batch.now deposits.now (length memory.old)) × (result.reordered ≡ answer day.now reordered.now reordered_deposits.now (length other.old)) }
 {
-    let answer = report::report(day, batch, deposits, memory);
-    let reordered_answer = report::report(day, reordered, reordered_deposits, other);
     Answers {
-        batch: answer,
-        reordered: reordered_answer,
+        batch: report::report(day, batch, deposits, memory),
+        reordered: report::report(day, reordered, reordered_deposits, other),
     }
 }

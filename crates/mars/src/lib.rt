@@ -14,7 +14,11 @@ use byte_report::byte_report;
 use model::TextSays;
 use text_reading::read_text;
 
+// Number 2^32 − 1 and value 0: of a text that is neither a report nor a refusal.
+const UNREADABLE: u64 = (NUMBER_UNIT - 1) * NUMBER_UNIT;
+
 // Number × 2^32 + value: 0 and the report's length in words, or the refusal's number and place.
+#[tactic(auto, using(model::proofs::Places::byte_value_small))]
 pub fn mars_report(day: &[u8], batch: &[u8], report: &mut [u8]) -> u64
     ensures result { result ≡ packed (byte_answer day.now batch.now (length report.old)) }
     ensures report { report.new ≡ bytes_after day.now batch.now report.old }
@@ -23,6 +27,7 @@ pub fn mars_report(day: &[u8], batch: &[u8], report: &mut [u8]) -> u64
 }
 
 // The same of files of words, with deposits.
+#[tactic(auto, using(model::proofs::Places::value_small))]
 pub fn mars_report_words(day: &[u32], batch: &[u32], deposits: &[u32], report: &mut [u32]) -> u64
     ensures result { result ≡ packed (answer day.now batch.now deposits.now (length report.old)) }
     ensures report { report.new ≡ memory_after day.now batch.now deposits.now report.old }
@@ -31,6 +36,7 @@ pub fn mars_report_words(day: &[u32], batch: &[u32], deposits: &[u32], report: &
 }
 
 // The same of all accounts of a broker: 0 and the words written in all, or the number and place of row 60 or 61.
+#[tactic(auto, using(model::proofs::Places::reports_value_small))]
 pub fn mars_reports(
     day: &[u32],
     batches: &[u32],
@@ -54,16 +60,15 @@ pub fn mars_read_text(text: &[u8], ordinary: &mut i64, fail: &mut i64, account: 
     ensures account { account.new ≡ total_after (λ t. t.account) (text_says text.now) account.old }
 {
     match read_text(text) {
-        TextSays::Report(totals) => {
-            let ordinary_total = totals.ordinary;
-            let fail_total = totals.fail;
-            let account_total = totals.account;
-            *ordinary = ordinary_total;
-            *fail = fail_total;
-            *account = account_total;
-            words::wide(totals.lines)
+        Some(TextSays::Report(totals)) => {
+            *ordinary = totals.ordinary;
+            *fail = totals.fail;
+            *account = totals.account;
+            u64::from(totals.lines)
         }
-        TextSays::Refusal(number, place) => words::wide(number) * NUMBER_UNIT + words::wide(place),
-        TextSays::Unreadable => 18446744069414584320,
+        Some(TextSays::Refusal(number, place)) => {
+            u64::from(number) * NUMBER_UNIT + u64::from(place)
+        }
+        None => UNREADABLE,
     }
 }

@@ -1,13 +1,11 @@
 -- The program's answer for its files, and that what it prints from its memory is the model's text.
-use Rattle.std.specs.Prelude.{◌≡◌, refl, Bool, ℕ, zero, suc, ◌+◌, ◌*◌, ◌/◌, ◌≤◌, drop, replicate}
+use Rattle.std.specs.Prelude.{◌≡◌, refl, Bool, ℕ, zero, suc, ◌+◌, ◌*◌, ◌/◌, ◌≤◌, drop, replicate, Ok, Err}
 use Rattle.std.proofs.Common.{sym, ap, ◌∙◌, arith, append-nil, length-append, length-take-le}
 use mathlib.Core.List.{List, [], ◌∷◌, ◌++◌}
 use Rattle.std.proofs.Math.ListN.{length, length-replicate}
-use Rattle.model.specs.declared.Answer.{Answer}
-use Rattle.model.specs.declared.Answer.TheVariants.{Report, Refused}
+use Rattle.model.specs.Outcomes.{Answer}
 use Rattle.model.specs.declared.Check.{Check}
-use Rattle.model.specs.declared.Verdict.{Verdict}
-use Rattle.model.specs.declared.Verdict.TheVariants.{Passed, Failed}
+use Rattle.model.specs.Outcomes.{Verdict}
 use Rattle.model.specs.Netting.{net, dvp}
 use Rattle.model.specs.Calls.{net_after, answer, answer_of, report, memory_after}
 use Rattle.model.specs.Bytes.{words_of, bytes_of, byte_answer, bytes_after, written_bytes}
@@ -33,10 +31,10 @@ call_text d b m = printed (answer d b [] (length m)) (memory_after d b [] m)
 -- ---- the answer by cases
 
 module _ (day_opened : Bool) (day : List ℕ) (batch_opened : Bool) (batch : List ℕ) where
-  pub files_refused : (k : Check) → files_check day_opened day batch_opened batch ≡ Failed k → Refused k ≡ files_answer day_opened day batch_opened batch
+  pub files_refused : (k : Check) → files_check day_opened day batch_opened batch ≡ Err k → Err k ≡ files_answer day_opened day batch_opened batch
   files_refused k e = rw e
 
-  pub files_passed : files_check day_opened day batch_opened batch ≡ Passed → (m : List ℕ) → m ≡ replicate (4 * longest_report) 0 → byte_answer day batch (length m) ≡ files_answer day_opened day batch_opened batch
+  pub files_passed : files_check day_opened day batch_opened batch ≡ Ok tt → (m : List ℕ) → m ≡ replicate (4 * longest_report) 0 → byte_answer day batch (length m) ≡ files_answer day_opened day batch_opened batch
   unfolding byte_answer
   files_passed e m q =
       rw (e, passed-opened day_opened day batch_opened batch e)
@@ -53,32 +51,32 @@ unfolding words_of
 zero_words zero = refl
 zero_words (suc n) = let e : 4 * suc n ≡ suc (suc (suc (suc (4 * n)))) = omega arith in ap (λ (k : ℕ). words_of (replicate k 0)) e ∙ ap (λ (l : List ℕ). 0 ∷ l) (zero_words n)
 
-the_report : (v : Verdict) (a : Answer) (n : ℕ) → answer_of v a ≡ Report n → a ≡ Report n
-the_report Passed a n e = e
-the_report (Failed k) a n e = let z : ◌≡◌ {A = ℕ} 0 1 = cc in absurd (omega arith)
+the_report : (v : Verdict) (a : Answer) (n : ℕ) → answer_of v a ≡ Ok n → a ≡ Ok n
+the_report (Ok _) a n e = e
+the_report (Err k) a n e = let z : ◌≡◌ {A = ℕ} 0 1 = cc in absurd (omega arith)
 
 -- the words of a report's bytes over zeros are the memory after the call over words
-after-report : (d b : List ℕ) (n : ℕ) → answer d b [] longest_report ≡ Report n → words_of (bytes_of (report d b []) ++ drop (4 * n) (replicate (4 * longest_report) 0)) ≡ report d b [] ++ drop n (replicate longest_report 0)
+after-report : (d b : List ℕ) (n : ℕ) → answer d b [] longest_report ≡ Ok n → words_of (bytes_of (report d b []) ++ drop (4 * n) (replicate (4 * longest_report) 0)) ≡ report d b [] ++ drop n (replicate longest_report 0)
 after-report d b n e =
     words_bytes (report_fits d b [] (answer-report d b [] longest_report n e).0) (drop (4 * n) (replicate (4 * longest_report) 0))
     ∙ ap (λ (l : List ℕ). report d b [] ++ l) (words_drop n (replicate (4 * longest_report) 0) ∙ ap (drop n) (zero_words longest_report))
 
 -- the memory after a report
-after-written : (d b m : List ℕ) (n : ℕ) → answer d b [] (length m) ≡ Report n → memory_after d b [] m ≡ report d b [] ++ drop n m
-after-written d b m n e = sym (memory_of d b [] m (Report n) (sym e))
+after-written : (d b m : List ℕ) (n : ℕ) → answer d b [] (length m) ≡ Ok n → memory_after d b [] m ≡ report d b [] ++ drop n m
+after-written d b m n e = sym (memory_of d b [] m (Ok n) (sym e))
 
 shown : (day_opened : Bool) (day : List ℕ) (batch_opened : Bool) (batch : List ℕ) (r : Answer) (w : List ℕ)
     → r ≡ files_answer day_opened day batch_opened batch → w ≡ words_of (written_bytes r (report (words_of day) (words_of batch) []) (replicate (4 * longest_report) 0))
     → (printed r w ≡ program_text day_opened day batch_opened batch) × Room r w
 unfolding program_text
-shown day_opened day batch_opened batch (Refused k) w e q =
+shown day_opened day batch_opened batch (Err k) w e q =
     (ap (λ (a : Answer). printed a (memory_after (words_of day) (words_of batch) [] (replicate longest_report 0))) e, tt)
-shown day_opened day batch_opened batch (Report n) w e q =
+shown day_opened day batch_opened batch (Ok n) w e q =
     let d = words_of day in
     let b = words_of batch in
-    let a : answer d b [] longest_report ≡ Report n = the_report (files_check day_opened day batch_opened batch) (answer d b [] longest_report) n (sym e) in
+    let a : answer d b [] longest_report ≡ Ok n = the_report (files_check day_opened day batch_opened batch) (answer d b [] longest_report) n (sym e) in
     let z : w ≡ report d b [] ++ drop n (replicate longest_report 0) = q ∙ after-report d b n a in (
-      ap (printed (Report n)) (z ∙ sym (after-written d b (replicate longest_report 0) n (ap (answer d b []) (length-replicate {A = ℕ} longest_report 0) ∙ a))) ∙ ap (λ (x : Answer). printed x (memory_after d b [] (replicate longest_report 0))) e,
+      ap (printed (Ok n)) (z ∙ sym (after-written d b (replicate longest_report 0) n (ap (answer d b []) (length-replicate {A = ℕ} longest_report 0) ∙ a))) ∙ ap (λ (x : Answer). printed x (memory_after d b [] (replicate longest_report 0))) e,
       rw z (omega (arith, count_read_lem d (net b) (net_after d b []) (dvp b) (drop n (replicate longest_report 0)), count_small d (net b) (dvp b))),
     )
 
@@ -106,8 +104,8 @@ text_fits t l m n e p =
 -- ---- the call over words
 
 pub room_of_lem : (d b m : List ℕ) (r : Answer) (w : List ℕ) → r ≡ answer d b [] (length m) → w ≡ memory_after d b [] m → Room r w
-room_of_lem d b m (Refused k) w e q = tt
-room_of_lem d b m (Report n) w e q =
+room_of_lem d b m (Err k) w e q = tt
+room_of_lem d b m (Ok n) w e q =
     rw (q ∙ after-written d b m n (sym e)) (omega (arith, count_read_lem d (net b) (net_after d b []) (dvp b) (drop n m), count_small d (net b) (dvp b)))
 
 pub words_shown : (d b m : List ℕ) (r : Answer) (w : List ℕ) → r ≡ answer d b [] (length m) → w ≡ memory_after d b [] m → printed r w ≡ call_text d b m

@@ -12,7 +12,7 @@ ghost use Rattle.program.specs.Files.{files_answer, call_text};
 ghost use Rattle.model.specs.Report.{longest_report};
 
 use byte_room::LONGEST_REPORT;
-use model::{Answer, Verdict};
+use model::Check;
 
 // The answer for two files, each opened or not, and the bytes of the report over a memory of zeros.
 fn answer_files(
@@ -21,38 +21,13 @@ fn answer_files(
     batch_opened: bool,
     batch: &[u8],
     memory: &mut [u8],
-) -> Answer
+) -> Result<usize, Check>
     requires { memory.old ≡ replicate (4 * longest_report) 0 }
     ensures value { result ≡ files_answer day_opened day.now batch_opened batch.now }
     ensures memory_after { memory.new ≡ written_bytes result (report_of (words_of day.now) (words_of batch.now) []) (replicate (4 * longest_report) 0) }
 {
-    if let Verdict::Failed(k) = byte_check::check_files(day_opened, day, batch_opened, batch) {
-        return Answer::Refused(k);
-    }
+    byte_check::check_files(day_opened, day, batch_opened, batch)?;
     byte_report::byte_report(day, batch, memory)
-}
-
-// The text, by way of lent memories for the report's bytes and words.
-fn print_through(
-    day_opened: bool,
-    day: &[u8],
-    batch_opened: bool,
-    batch: &[u8],
-    memory: &mut [u8],
-    words: &mut [u32],
-    out: &mut [u8],
-) -> usize
-    requires memory_value { memory.old ≡ replicate (4 * longest_report) 0 }
-    requires words_len { length words.old ≡ longest_report }
-    requires longest_text_in_bounds { longest_text ≤ length out.old }
-    ensures value { (result ≡ length (program_text day_opened day.now batch_opened batch.now)) × (out.new ≡ put 0 (program_text day_opened day.now batch_opened batch.now) out.old) }
-    ensures prefix_len { IsPrefixLen result out.new }
-    ensures memory_after { memory.new ≡ written_bytes (files_answer day_opened day.now batch_opened batch.now) (report_of (words_of day.now) (words_of batch.now) []) (replicate (4 * longest_report) 0) }
-    ensures words_after { words.new ≡ put 0 (words_of memory.new) words.old }
-{
-    let answer = answer_files(day_opened, day, batch_opened, batch, memory);
-    byte_words::decode(memory, words);
-    text::lines::write_answer(answer, words, out)
 }
 
 // The text at the front of the buffer; its length.
@@ -69,15 +44,9 @@ pub fn print_files(
 {
     let mut memory = [0u8; 4 * LONGEST_REPORT];
     let mut words = [0u32; LONGEST_REPORT];
-    print_through(
-        day_opened,
-        day,
-        batch_opened,
-        batch,
-        &mut memory,
-        &mut words,
-        out,
-    )
+    let answer = answer_files(day_opened, day, batch_opened, batch, &mut memory);
+    byte_words::decode(&memory, &mut words);
+    text::lines::write_answer(answer, &words, out)
 }
 
 // The same of two files of words and a memory of any length.
@@ -87,6 +56,6 @@ pub fn print_words(day: &[u32], batch: &[u32], memory: &mut [u32], out: &mut [u8
     ensures prefix_len { IsPrefixLen result out.new }
     ensures memory_after { memory.new ≡ memory_after day.now batch.now [] memory.old }
 {
-    let answer = report::report(day, batch, &day[..0], memory);
+    let answer = report::report(day, batch, &[], memory);
     text::lines::write_answer(answer, memory, out)
 }

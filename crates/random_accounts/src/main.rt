@@ -29,7 +29,7 @@ const BATCH_ROOM: usize = LONGEST_BATCH + RECORD_WORDS;
 
 // The file's next bytes as words; the number of bytes that it gave.
 fn read_part<R: Read>(file: &mut Option<R>, bytes: &mut [u8], words: &mut [u32]) -> usize
-    requires { (length bytes.old ≤ 4 * length words.old) × (length bytes.old ≤ 1000000) }
+    requires { length bytes.old ≤ 4 * length words.old }
     ensures prefix_len { IsPrefixLen result bytes.new }
     ensures words_after { words.new ≡ put 0 (words_of (take result bytes.new)) words.old }
 {
@@ -40,7 +40,7 @@ fn read_part<R: Read>(file: &mut Option<R>, bytes: &mut [u8], words: &mut [u32])
 
 // The file's next n words, by way of the front of `bytes`; the number of bytes that it gave.
 fn read_words<R: Read>(file: &mut Option<R>, n: usize, bytes: &mut [u8], words: &mut [u32]) -> usize
-    requires { (4 * n ≤ length bytes.old) × (n ≤ length words.old) × (n ≤ 10000) }
+    requires { (4 * n ≤ length bytes.old) × (n ≤ length words.old) }
     ensures upper_bound { result ≤ 4 * n }
     ensures words_after { words.new ≡ put 0 (words_of (take result bytes.new)) words.old }
     ensures bytes_unchanged { drop (4 * n) bytes.new ≡ drop (4 * n) bytes.old }
@@ -81,10 +81,14 @@ fn print_fronts(
     ensures out_after { out.new ≡ put 0 (call_text (front lengths.now 0 day.now) (front lengths.now 1 batch.now) (front lengths.now 2 memory.old)) out.old }
 {
     let held = lengths_within(lengths, day.len(), batch.len(), memory.len());
-    let d = held.day;
-    let b = held.batch;
-    let m = held.memory;
-    print_case(rt, i, &day[..d], &batch[..b], &mut memory[..m], out)
+    print_case(
+        rt,
+        i,
+        &day[..held.day],
+        &batch[..held.batch],
+        &mut memory[..held.memory],
+        out,
+    )
 }
 
 // The file's next case: three lengths in words, the day file, the batch.

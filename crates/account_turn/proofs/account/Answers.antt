@@ -1,33 +1,30 @@
-use Rattle.std.proofs.Common.{rules, ◌≡◌, [], ◌+◌, ◌*◌, ◌^◌, ◌≤◌, ◌<◌, length, ℕ, ◌-◌, ◌/◌, ◌%◌, Bool, true, false, nat_eq, nat_lt, List, ◌∷◌, ◌++◌, slice_index_or, slice_set, bit_and, bit_or, Fits, w8, w32, w64, Bor, MutBor, arith, ap, sym, ◌∙◌}
-use Rattle.numbers.specs.Put.{put}
-use Rattle.model.specs.Answers.{value_of}
-use Rattle.model.specs.Calls.{answer as answer_to}
-use Rattle.model.specs.Calls.{memory_after}
-use Rattle.model.specs.DayChecks.{day_check}
-use Rattle.model.specs.Limits.{most_accounts}
-use Rattle.model.specs.ManyAccounts.{result_numbers, pair_of}
-use Rattle.model.specs.declared.Verdict.TheVariants.{Passed}
-use Rattle.classes.specs.Starts.{start_table}
-use Rattle.account_turn.proofs.account.Goals as goal
+use Rattle.std.specs.Prelude.{Err}
+use Rattle.std.proofs.Common.{◌≡◌, [], ◌^◌, ◌<◌, length, ℕ, List, arith, ap, ◌∙◌}
 use Rattle.model.proofs.Outcome.{memory_of}
 use Rattle.model.proofs.Places.{value_small}
-use Rattle.model.specs.Calls.{answer}
-use Rattle.model.specs.declared.Answer.{Answer}
+use Rattle.model.specs.Answers.{value_of}
+use Rattle.model.specs.Calls.{answer, memory_after}
+use Rattle.model.specs.Outcomes.{Answer}
 use Rattle.report.specs.Calls.{answer-day}
+use Rattle.account_turn.proofs.account.Goals as goal
 
-pub returns-in-Failed : goal.returns-in-Failed
-returns-in-Failed c =
-    let d = c.args.day.now in
+small : (d b m : List ℕ) (r : Answer) → r ≡ answer d b [] (length m) → (r ≡ answer d b [] (length m)) × (value_of r < 2 ^ 32)
+small d b m r e = (e, omega (arith, ap value_of e, value_small d b [] (length m)))
+
+pub returns-in-Ok : goal.returns-in-Ok
+returns-in-Ok c =
+    let d = c.args.day.now.words.now in
     let b = c.args.batch.now in
     let m = c.args.memory.now in
-    let small : (r : Answer) → r ≡ answer d b [] (length m) → (r ≡ answer d b [] (length m)) × (value_of r < 2 ^ 32) = λ r e. (e, omega (arith, ap value_of e, value_small d b [] (length m))) in
-    let e = answer-day (d) (b) [] (length (m)) _ (sym c.requires.verdict_value ∙ c.in-Failed.is) in
-    record { value = small _ e; memory_after = memory_of (d) (b) [] (m) _ e }
+    let same = c.args.day.now.gives.0 c.in-Ok.day c.in-Ok.is in
+    let e = c.report_of_day.ensures.value ∙ ap (λ (w : List ℕ). answer w b [] (length m)) same in
+    record { value = small d b m _ e; memory_after = c.report_of_day.ensures.memory_after ∙ ap (λ (w : List ℕ). memory_after w b [] m) same }
 
-pub returns : goal.returns
-returns c =
-    let d = c.args.day.now in
+pub returns-in-Err : goal.returns-in-Err
+returns-in-Err c =
+    let d = c.args.day.now.words.now in
     let b = c.args.batch.now in
     let m = c.args.memory.now in
-    let small : (r : Answer) → r ≡ answer d b [] (length m) → (r ≡ answer d b [] (length m)) × (value_of r < 2 ^ 32) = λ r e. (e, omega (arith, ap value_of e, value_small d b [] (length m))) in
-    record { value = small _ c.report_of_day.ensures.value; memory_after = c.report_of_day.ensures.memory_after }
+    let k = c.in-Err.check in
+    let e = answer-day d b [] (length m) k (c.args.day.now.gives.1 k c.in-Err.is) in
+    record { value = small d b m (Err k) e; memory_after = memory_of d b [] m (Err k) e }

@@ -1,43 +1,41 @@
-use Rattle.std.proofs.Common.{◌≡◌, [], ◌*◌, ◌≤◌, length, take, ℕ, List, ◌++◌, sym, ◌∙◌, arith, ap, drop}
-use Rattle.model.specs.Bytes.{written_bytes}
-use Rattle.byte_report.proofs.report_words.Goals as goal
-use Rattle.byte_report.specs.Room.{answer_fits}
-use Rattle.byte_report.specs.Room.{answer_room}
-use Rattle.byte_report.specs.Room.{report-front}
-use Rattle.byte_room.specs.Room.{room_fits}
-use Rattle.byte_room.specs.Room.{room_most}
-use Rattle.byte_words.specs.Words.{bytes_length}
+use Rattle.std.specs.Prelude.{Ok}
+use Rattle.std.proofs.Common.{rules, ◌≡◌, [], ◌*◌, ◌≤◌, length, take, ℕ, List, ◌++◌, sym, ◌∙◌, arith, ap, drop}
+use Rattle.numbers.specs.Put.{put, put_front}
 use Rattle.model.specs.Bytes.{bytes_of}
-use Rattle.model.specs.Calls.{answer}
-use Rattle.model.specs.Calls.{report}
-use Rattle.model.specs.declared.Answer.TheVariants.{Report}
-use Rattle.model.specs.declared.Answer.{Answer}
-use Rattle.numbers.specs.Put.{put_front}
-use Rattle.numbers.specs.Put.{put}
+use Rattle.model.specs.Calls.{answer, report}
+use Rattle.byte_room.specs.Room.{room_fits}
+use Rattle.byte_words.specs.Words.{bytes_length}
+use Rattle.byte_report.specs.Room.{answer_fits, answer_room, report-front}
+use Rattle.byte_report.proofs.report_words.Goals as goal
+
+pub returns-in_err-n-clause-value : goal.returns-in_err-n-clause-value
+returns-in_err-n-clause-value c =
+    let d = c.args.day.now in
+    let b = c.args.batch.now in
+    let e = c.in_err-n.ensures.result ∙ ap (answer d b []) c.requires ∙ answer_room d b [] (length c.args.memory.now) in
+    search rules
 
 pub encode_front-requires : goal.encode_front-requires
 encode_front-requires c =
-    let d = c.args.day.now in
-    let b = c.args.batch.now in
-    let n = c.in-Report.n in
-    let reported : answer d b [] (length c.args.words.now) ≡ Report n = sym c.report-answer.ensures.result ∙ c.in-Report.is in
-    let fits : (n ≤ length c.args.words.now) × (n ≡ length (report d b [])) = answer_fits d b [] (length c.args.words.now) n reported in
-    let l = length c.args.memory.now in
-    (omega (arith, (fits).0, c.report-answer.auto.memory), omega (arith, (fits).0, c.requires, room_fits l), omega (arith, (fits).0, c.requires, room_most l))
+    let fits : (c.in_ok-n.n ≤ length c.args.words.now) × (c.in_ok-n.n ≡ length (report c.args.day.now c.args.batch.now [])) = answer_fits _ _ _ _ _ (sym c.in_ok-n.ensures.result) in
+    (omega (arith, fits.0, c.report.auto.memory), omega (arith, fits.0, c.requires, room_fits (length c.args.memory.now)))
 
-pub returns-in-Report : goal.returns-in-Report
-returns-in-Report c =
+pub returns-clause-value : goal.returns-clause-value
+returns-clause-value c =
     let d = c.args.day.now in
     let b = c.args.batch.now in
-    let n = c.in-Report.n in
-    let reported : answer d b [] (length c.args.words.now) ≡ Report n = sym c.report-answer.ensures.result ∙ c.in-Report.is in
-    let fits : (n ≤ length c.args.words.now) × (n ≡ length (report d b [])) = answer_fits d b [] (length c.args.words.now) n reported in
+    c.in_ok-n.ensures.result ∙ ap (answer d b []) c.requires ∙ answer_room d b [] (length c.args.memory.now)
+
+pub returns-clause-memory_after : goal.returns-clause-memory_after
+returns-clause-memory_after c =
+    let d = c.args.day.now in
+    let b = c.args.batch.now in
     let m = c.args.memory.now in
+    let n = c.in_ok-n.n in
     let w = c.args.words.now in
-    let r = report (d) (b) [] in record { value = sym (reported) ∙ ap (answer (d) (b) []) c.requires ∙ answer_room (d) (b) [] (length m); memory_after = c.encode_front.ensures ∙ ap (λ (x : List ℕ). put 0 (bytes_of x) m) (ap (take (n)) c.report-answer.ensures.memory ∙ report-front (d) (b) [] w (n) (reported)) ∙ put_front (bytes_of r) m ∙ ap (λ (x : ℕ). bytes_of r ++ drop x m) (bytes_length r ∙ ap (λ (x : ℕ). 4 * x) (sym (fits).1)) }
-
-pub returns-in_default : goal.returns-in_default
-returns-in_default c =
-    let m = c.args.memory.now in
-    let d = c.args.day.now in
-    let b = c.args.batch.now in record { value = c.report-answer.ensures.result ∙ ap (answer d b []) c.requires ∙ answer_room d b [] (length m); memory_after = sym (ap (λ (r : Answer). written_bytes r (report d b []) m) c.in_default.is) }
+    let r = report d b [] in
+    let reported : answer d b [] (length w) ≡ Ok n = sym c.in_ok-n.ensures.result in
+    c.encode_front.ensures
+    ∙ ap (λ (x : List ℕ). put 0 (bytes_of x) m) (ap (take n) c.report.ensures.memory ∙ report-front d b [] w n reported)
+    ∙ put_front (bytes_of r) m
+    ∙ ap (λ (x : ℕ). bytes_of r ++ drop x m) (bytes_length r ∙ ap (λ (x : ℕ). 4 * x) (sym (answer_fits d b [] _ n reported).1))
