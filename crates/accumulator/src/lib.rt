@@ -66,6 +66,7 @@ impl Points {
         ensures { result.at ≡ added self.at position.contracts position.base position.prices }
     {
         let mut next = self;
+        // by index: each point's amount with the price at the same point
         for k in 0..Points::COUNT {
             next.at[k] += change_amount(position.contracts, position.base, position.prices[k]);
         }

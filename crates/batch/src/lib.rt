@@ -30,6 +30,14 @@ pub fn record_count(batch: &[u32]) -> usize
     payload(batch_header(batch)) as usize
 }
 
+// Word i of record r, where that word is there and the rest of the record need not be.
+pub fn record_word(batch: &[u32], r: usize, i: usize) -> u32
+    requires { batch_words r + i < length batch.now }
+    ensures { result ≡ record_word batch.now r i }
+{
+    batch[1 + RECORD_WORDS * r + i]
+}
+
 // A record, whose words are there.
 #[derive(Clone, Copy)]
 pub struct Record<'a> {
@@ -52,7 +60,7 @@ impl<'a> Record<'a> {
         requires { i < record_words }
         ensures { result ≡ record_word self.now.batch.now self.now.index i }
     {
-        self.batch[1 + RECORD_WORDS * self.index + i]
+        record_word(self.batch, self.index, i)
     }
 
     // The position: place, bit 8 and bit 9, the low ten bits of the key.
@@ -109,5 +117,27 @@ impl<'a> Record<'a> {
         ensures { result ≡ dvp_amount self.now.batch.now self.now.index }
     {
         words::amount(self.word(3), self.word(4), self.word(5))
+    }
+}
+
+// A batch whose length is that of its records.
+#[derive(Clone, Copy)]
+pub struct WholeBatch<'a> {
+    pub words: &'a [u32],
+    pub ghost whole: { length words.now ≡ batch_words (record_count words.now) },
+}
+
+impl WholeBatch<'_> {
+    pub fn record_count(&self) -> usize
+        ensures { result ≡ record_count self.now.words.now }
+    {
+        record_count(self.words)
+    }
+
+    pub fn record(&self, r: usize) -> Record<'_>
+        requires { r < record_count self.now.words.now }
+        ensures { (result.batch.now ≡ self.now.words.now) × (result.index ≡ r) }
+    {
+        Record::new(self.words, r)
     }
 }

@@ -1,7 +1,6 @@
 -- Reading inverts the writing: the text of a refusal says its number and place, that of a report the count and the totals of its words.
 use Rattle.std.specs.Prelude.{◌≡◌, refl, List, [], ◌∷◌, ◌++◌, ℕ, ◌+◌, ◌*◌, ◌-◌, ◌^◌, ◌≤◌, ◌<◌, ℤ, nat_abs, length, drop, get_or, Ok, Err, Some}
 use Rattle.std.proofs.Common.{ap, ◌∙◌, append_assoc, arith, lt-ltb, le-leb, drop_at, get_or-take, get_or-drop}
-use Rattle.model.specs.Outcomes.{Answer}
 use Rattle.model.specs.declared.Check.{Check}
 use Rattle.model.specs.declared.TextSays.TheVariants.{Report, Refusal}
 use Rattle.model.proofs.Sizes.{amount_small}

@@ -10,6 +10,8 @@ ghost use Rattle.series_types.specs.Types.{read_type};
 use series_types::{SeriesType, UnknownType};
 use words::{bits, payload, word_at};
 
+pub mod whole;
+
 // The words of a class.
 pub const CLASS_WORDS: usize = 20;
 
@@ -49,6 +51,22 @@ pub fn series_count(day: &[u32]) -> usize
     bits(payload(day_header(day)), 7, 9) as usize
 }
 
+// Word i of class c, where that word is there and the rest of the class need not be.
+pub fn class_word(day: &[u32], c: usize, i: usize) -> u32
+    requires { class_at c + i < length day.now }
+    ensures { result ≡ class_word day.now c i }
+{
+    day[1 + CLASS_WORDS * c + i]
+}
+
+// Word i of series s, where that word is there and the rest of the series need not be.
+pub fn series_word(day: &[u32], s: usize, i: usize) -> u32
+    requires { series_at day.now s + i < length day.now }
+    ensures { result ≡ series_word day.now s i }
+{
+    day[1 + CLASS_WORDS * class_count(day) + SERIES_WORDS * s + i]
+}
+
 // A class, whose words are there.
 #[derive(Clone, Copy)]
 pub struct Class<'a> {
@@ -71,7 +89,7 @@ impl<'a> Class<'a> {
         requires { i < class_words }
         ensures { result ≡ class_word self.now.day.now self.now.place i }
     {
-        self.day[1 + CLASS_WORDS * self.place + i]
+        class_word(self.day, self.place, i)
     }
 
     // Product group, bits 0 to 4 of the key.
@@ -174,7 +192,7 @@ impl<'a> Series<'a> {
         requires { i < series_words }
         ensures { result ≡ series_word self.now.day.now self.now.place i }
     {
-        self.day[1 + CLASS_WORDS * class_count(self.day) + SERIES_WORDS * self.place + i]
+        series_word(self.day, self.place, i)
     }
 
     // The key payload.
@@ -198,58 +216,58 @@ impl<'a> Series<'a> {
         bits(self.key(), 7, 12)
     }
 
-    // Type, bits 19 to 22 of the key.
+    // The number of the type, bits 19 to 22 of the key.
+    pub fn type_number(&self) -> u32
+        ensures { (result ≡ series_type self.now.day.now self.now.place) × (result < 16) }
+    {
+        bits(self.key(), 19, 4)
+    }
+
+    // The type, where one has the number.
     pub fn series_type(&self) -> Result<SeriesType, UnknownType>
         ensures { result ≡ read_type (series_type self.now.day.now self.now.place) }
     {
-        SeriesType::try_from(bits(self.key(), 19, 4))
-    }
-
-    // The type's number, of a series whose type is any four bits.
-    pub fn type_number(&self) -> usize
-        ensures { (result ≡ series_type self.now.day.now self.now.place) × (result < 16) }
-    {
-        bits(self.key(), 19, 4) as usize
+        SeriesType::try_from(self.type_number())
     }
 
     // A future.
     pub fn is_future(&self) -> bool
         ensures { result ≡ is_future (series_type self.now.day.now self.now.place) }
     {
-        self.series_type().is_ok_and(|t| t == SeriesType::Future)
+        series_types::is_future(self.type_number())
     }
 
     pub fn is_call(&self) -> bool
         ensures { result ≡ is_call (series_type self.now.day.now self.now.place) }
     {
-        self.series_type().is_ok_and(|t| t == SeriesType::Call)
+        series_types::is_call(self.type_number())
     }
 
     pub fn is_put(&self) -> bool
         ensures { result ≡ is_put (series_type self.now.day.now self.now.place) }
     {
-        self.series_type().is_ok_and(|t| t == SeriesType::Put)
+        series_types::is_put(self.type_number())
     }
 
     // A call or a put.
     pub fn is_option(&self) -> bool
         ensures { result ≡ is_option (series_type self.now.day.now self.now.place) }
     {
-        self.series_type().is_ok_and(|t| t.is_option())
+        series_types::is_option(self.type_number())
     }
 
     // An equity, a warrant or a rights issue.
     pub fn is_security(&self) -> bool
         ensures { result ≡ is_security (series_type self.now.day.now self.now.place) }
     {
-        self.series_type().is_ok_and(|t| t.is_security())
+        series_types::is_security(self.type_number())
     }
 
     // Of a type that deposits cover.
     pub fn is_coverable(&self) -> bool
         ensures { result ≡ is_coverable (series_type self.now.day.now self.now.place) }
     {
-        self.series_type().is_ok_and(|t| t.is_coverable())
+        series_types::is_coverable(self.type_number())
     }
 
     // Class number, bits 23 to 28 of the key.
@@ -288,11 +306,11 @@ impl<'a> Series<'a> {
     }
 }
 
-// Type of series s in words that may be too few.
-pub fn series_type_at(day: &[u32], s: usize) -> Result<SeriesType, UnknownType>
+// The number of the type of series s, of words that may be too few.
+pub fn series_type_at(day: &[u32], s: usize) -> u32
     requires { s < 4294967296 }
-    ensures { result ≡ read_type (series_type day.now s) }
+    ensures { result ≡ series_type day.now s }
 {
-    let key = payload(word_at(day, 1 + CLASS_WORDS * class_count(day) + SERIES_WORDS * s));
-    SeriesType::try_from(bits(key, 19, 4))
+    let key = word_at(day, 1 + CLASS_WORDS * class_count(day) + SERIES_WORDS * s);
+    bits(payload(key), 19, 4)
 }

@@ -90,6 +90,20 @@ day_checked d e =
       at17 = clear _ _ _ series.1.1.0;
     }
 
+-- and back
+pub day_pass : (d : List ℕ) → DayRows d → day_check d ≡ Ok tt
+unfolding day_check record_check class_check series_check
+day_pass d r =
+    tried_pass _
+    (plain_back (DayHeader BadDayHeader) _ r.at10
+    then plain_back (DayLength BadDayLength) _ r.at11
+    then tried_pass _
+    (clear_back _ _ _ r.at12
+    then tried_pass _ (clear_back _ _ _ r.at13 then clear_back _ _ _ r.at14 then tt)
+    then tried_pass _ (clear_back _ _ _ r.at15 then clear_back _ _ _ r.at16 then clear_back _ _ _ r.at17 then tt)
+    then tt)
+    then tt)
+
 module _ (d x : List ℕ) where
   pub deposit_checked : deposit_check d x ≡ Ok tt → DepositRows d x
   unfolding deposit_check

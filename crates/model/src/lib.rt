@@ -110,7 +110,7 @@ pub enum AccountsFault {
     ShortResults = 61,
 }
 
-// What a printed text says: a report's line count and totals, or a refusal's number and place.
+// What a printed text says: a report's line count and totals, or a refusal's number and place. No Result: reading a refusal is no failure.
 #[derive(Clone, Copy)]
 pub enum TextSays {
     Report(ReportTotals),

@@ -9,7 +9,7 @@ ghost use Rattle.words.specs.Kinds.{kind_number};
 ghost use Rattle.record_words.specs.BadRecord.{bad_word_at, bad_dvp, bad_record};
 
 use batch::Record;
-use words::{Kind, PAYLOAD_LIMIT, bad_word, bits, magnitude, negative, payload};
+use words::{Kind, PAYLOAD_LIMIT, bits, magnitude, negative, payload};
 
 // The largest payload of a record's key: bits 10 on are spare.
 const KEY_LIMIT: u32 = 1023;
@@ -49,7 +49,7 @@ fn bad_word_at(r: &Record, j: usize) -> bool
     requires { j < record_words }
     ensures { result ≡ bad_word_at r.now.batch.now r.now.index j }
 {
-    bad_word(r.word(j), record_kind(j), record_limit(j))
+    record_kind(j).refuses(r.word(j), record_limit(j))
 }
 
 // The DVP amount: within its limit its first word has no bit but the sign's, and the other two have its magnitude.
@@ -62,7 +62,7 @@ fn bad_dvp(r: &Record) -> bool
     (0 < bits(payload(u), 0, 28)) | (DVP_AMOUNT_LIMIT < size) | (negative(u) & (size == 0))
 }
 
-// One of its six words, or its DVP amount, without a branch.
+// One of its six words, or its DVP amount, without a branch: by `any` or `||` a batch took a fifth longer.
 fn bad_record(r: &Record) -> bool
     ensures { result ≡ bad_record r.now.batch.now r.now.index }
 {

@@ -1,4 +1,4 @@
-// The types of a series: no other place has their numbers.
+// The types of a series: no other place of the code has their numbers.
 #![tactic(auto)]
 
 ghost use Rattle.std.specs.Prelude.{◌≡◌};
@@ -51,10 +51,10 @@ impl SeriesType {
         SeriesType::Rights,
     ];
 
-    pub fn number(self) -> usize
+    pub fn number(self) -> u32
         ensures { result ≡ type_number self }
     {
-        self as usize
+        self as u32
     }
 
     // A call or a put.
@@ -87,4 +87,69 @@ impl SeriesType {
     {
         matches!(self, SeriesType::Future)
     }
+}
+
+// The tests of a number, which may be no type's: a key has any four bits, and rows 24 to 26 read a series that may not be there.
+
+// Type 1.
+pub fn is_future(number: u32) -> bool
+    ensures { result ≡ is_future number }
+{
+    SeriesType::try_from(number).is_ok_and(|t| t == SeriesType::Future)
+}
+
+// Type 2.
+pub fn is_call(number: u32) -> bool
+    ensures { result ≡ is_call number }
+{
+    SeriesType::try_from(number).is_ok_and(|t| t == SeriesType::Call)
+}
+
+// Type 3.
+pub fn is_put(number: u32) -> bool
+    ensures { result ≡ is_put number }
+{
+    SeriesType::try_from(number).is_ok_and(|t| t == SeriesType::Put)
+}
+
+// A call or a put.
+pub fn is_option(number: u32) -> bool
+    ensures { result ≡ is_option number }
+{
+    SeriesType::try_from(number).is_ok_and(|t| t.is_option())
+}
+
+// Type 4.
+pub fn is_equity(number: u32) -> bool
+    ensures { result ≡ is_equity number }
+{
+    SeriesType::try_from(number).is_ok_and(|t| t == SeriesType::Equity)
+}
+
+// Type 5.
+pub fn is_warrant(number: u32) -> bool
+    ensures { result ≡ is_warrant number }
+{
+    SeriesType::try_from(number).is_ok_and(|t| t == SeriesType::Warrant)
+}
+
+// An equity, a warrant or a rights issue.
+pub fn is_security(number: u32) -> bool
+    ensures { result ≡ is_security number }
+{
+    SeriesType::try_from(number).is_ok_and(|t| t.is_security())
+}
+
+// A future or an option.
+pub fn is_derivative(number: u32) -> bool
+    ensures { result ≡ is_derivative number }
+{
+    SeriesType::try_from(number).is_ok_and(|t| t.is_derivative())
+}
+
+// A type that deposits cover.
+pub fn is_coverable(number: u32) -> bool
+    ensures { result ≡ is_coverable number }
+{
+    SeriesType::try_from(number).is_ok_and(|t| t.is_coverable())
 }

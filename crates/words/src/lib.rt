@@ -2,15 +2,16 @@
 #![tactic(auto)]
 
 ghost use Rattle.std.specs.Prelude.{◌≡◌, ◌^◌, ◌≤◌, ◌<◌, nat_abs, get_or, eqb};
-ghost use Rattle.model.specs.Words.{kind as kind_of, payload as payload_of, bits as bits_of, word as word_of, bad_word, magnitude as magnitude_of, negative as negative_of, amount as amount_of, high_word, middle_word, low_word, sign_bit};
+ghost use Rattle.model.specs.Words.{kind as top_bits, payload as payload_of, bits as bits_of, word as word_of, bad_word, magnitude as magnitude_of, negative as negative_of, amount as amount_of, high_word, middle_word, low_word, sign_bit};
 ghost use Rattle.words.specs.Kinds.{kind_number};
 
 // The largest payload.
 pub const PAYLOAD_LIMIT: u32 = 536870911;
 
-// The kinds of words, by their numbers: 5 and 6 are parts of an amount.
+// The kinds of words, by their numbers: 5 and 6 are parts of an amount, and no file has 0.
 #[derive(Clone, Copy)]
 pub enum Kind {
+    Unused = 0,
     Header = 1,
     Key = 2,
     Price = 3,
@@ -27,11 +28,27 @@ pub fn word_at(words: &[u32], i: usize) -> u32
     words.get(i).copied().unwrap_or(0)
 }
 
+// The top 3 bits.
+pub fn kind_of(w: u32) -> Kind
+    ensures { kind_number result ≡ top_bits w }
+{
+    match w / 536870912 {
+        1 => Kind::Header,
+        2 => Kind::Key,
+        3 => Kind::Price,
+        4 => Kind::Count,
+        5 => Kind::High,
+        6 => Kind::Low,
+        7 => Kind::Totals,
+        _ => Kind::Unused,
+    }
+}
+
 // The top 3 bits are those of a kind.
 pub fn has_kind(w: u32, kind: Kind) -> bool
-    ensures { result ≡ eqb (kind_of w) (kind_number kind) }
+    ensures { result ≡ eqb (top_bits w) (kind_number kind) }
 {
-    w / 536870912 == kind as u32
+    kind_of(w) as u32 == kind as u32
 }
 
 // The low 29 bits.
@@ -57,11 +74,20 @@ pub fn word(kind: Kind, p: u32) -> u32
     kind as u32 * 536870912 + p
 }
 
-// A wrong kind, or a payload above its limit.
-pub fn bad_word(w: u32, kind: Kind, limit: u32) -> bool
-    ensures { result ≡ bad_word w (kind_number kind) limit }
+// A wrong kind, or a payload above its limit; of any number, as a kind that no word has is wrong too.
+pub fn bad_word(w: u32, k: u32, limit: u32) -> bool
+    ensures { result ≡ bad_word w k limit }
 {
-    !has_kind(w, kind) | (limit < payload(w))
+    (kind_of(w) as u32 != k) | (limit < payload(w))
+}
+
+impl Kind {
+    // A word of another kind, or with a payload above its limit.
+    pub fn refuses(self, w: u32, limit: u32) -> bool
+        ensures { result ≡ bad_word w (kind_number self) limit }
+    {
+        bad_word(w, self as u32, limit)
+    }
 }
 
 // Bit 28 of an amount's first word.
