@@ -1,10 +1,10 @@
-// The checks of a batch: rows 20 to 28, each over all records or words before the next.
+// The checks of a batch: rows 20 to 28; the lowest row that refuses it decides.
 #![tactic(auto)]
 
 ghost use Rattle.std.specs.Prelude.{◌≡◌};
 ghost use Rattle.model.specs.BatchChecks.{row20, row21, batch_form, batch_check};
 
-use batch::{MOST_RECORDS, RECORD_WORDS, batch_header, record_count};
+use batch::{MOST_RECORDS, RECORD_WORDS, WholeBatch, batch_header, record_count};
 use batch_positions::check_positions;
 use batch_words::check_words;
 use model::{BatchHeaderFault, BatchLengthFault, Check};
@@ -39,7 +39,7 @@ fn check_form(batch: &[u32]) -> Result<(), Check>
     if bad_length(batch) {
         return Err(Check::BatchLength(BatchLengthFault::BadBatchLength, 0));
     }
-    check_words(batch)
+    check_words(&WholeBatch { words: batch })
 }
 
 // The first check that refuses the batch, for any words of it and of the day file.
@@ -48,5 +48,5 @@ pub fn check_batch(day: &[u32], batch: &[u32]) -> Result<(), Check>
     ensures { result ≡ batch_check day.now batch.now }
 {
     check_form(batch)?;
-    check_positions(day, batch)
+    check_positions(day, &WholeBatch { words: batch })
 }

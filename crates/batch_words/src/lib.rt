@@ -1,13 +1,13 @@
-// Rows 22, 27 and 28: the words of every record of a batch, each row over all words before the next.
+// Rows 22, 27 and 28: the words of a batch, in one pass for all three; from its first bad record each row is tried over all words before the next.
 #![tactic(auto)]
 
-ghost use Rattle.std.specs.Prelude.{◌≡◌, ◌+◌, ◌≤◌, ◌<◌, length, None};
+ghost use Rattle.std.specs.Prelude.{◌≡◌, ◌+◌, ◌≤◌, ◌<◌, None};
 ghost use Rattle.numbers.specs.Scan.{first_bad};
 ghost use Rattle.model.specs.Batch.{record_count, record_words, batch_words};
 ghost use Rattle.model.specs.BatchChecks.{dvp_out_of_range, dvp_minus_zero, wrong_kind, out_of_range, minus_zero, row_of, word_row, word_check};
 ghost use Rattle.record_words.specs.BadRecord.{bad_record};
 
-use batch::{RECORD_WORDS, Record, record_count};
+use batch::{RECORD_WORDS, Record, WholeBatch};
 use model::{BatchWordsFault, Check};
 use record_words::{DVP_AMOUNT_LIMIT, first_bad_record, record_kind, record_limit};
 use words::{bits, has_kind, negative, payload};
@@ -55,7 +55,7 @@ fn minus_zero(r: &Record, j: usize) -> bool
     j == 3 && dvp_minus_zero(r)
 }
 
-// The test of that row.
+// The test of that row, chosen by its fault, as by the model's `row_of`. With tests handed on as closures three functions asked two clauses more.
 fn has_fault(fault: BatchWordsFault, r: &Record, j: usize) -> bool
     requires { j < record_words }
     ensures { result ≡ row_of fault r.now.batch.now (batch_words r.now.index + j) }
@@ -76,13 +76,13 @@ fn first_in_record(fault: BatchWordsFault, r: &Record) -> Option<usize>
 
 // The first word of so many records that it refuses, by its index in the batch; none of those before record `from`.
 #[tactic(auto, using(crate::specs::Scan::records, crate::specs::Scan::in_record))]
-fn first_in_batch(fault: BatchWordsFault, batch: &[u32], from: usize, count: usize) -> Option<usize>
-    requires from_le_count { (from ≤ count) × (batch_words count ≤ length batch.now) }
-    requires from_value { first_bad (row_of fault batch.now) (batch_words from) ≡ None }
-    ensures { result ≡ first_bad (row_of fault batch.now) (batch_words count) }
+fn first_in_batch(fault: BatchWordsFault, batch: &WholeBatch<'_>, from: usize) -> Option<usize>
+    requires from_bound { from ≤ record_count batch.now.words.now }
+    requires from_value { first_bad (row_of fault batch.now.words.now) (batch_words from) ≡ None }
+    ensures { result ≡ first_bad (row_of fault batch.now.words.now) (batch_words (record_count batch.now.words.now)) }
 {
-    for r in from..count {
-        if let Some(j) = first_in_record(fault, &Record::new(batch, r)) {
+    for r in from..batch.record_count() {
+        if let Some(j) = first_in_record(fault, &batch.record(r)) {
             return Some(1 + RECORD_WORDS * r + j);
         }
     }
@@ -90,35 +90,32 @@ fn first_in_batch(fault: BatchWordsFault, batch: &[u32], from: usize, count: usi
 }
 
 // The row over the whole batch.
-fn check_row(fault: BatchWordsFault, batch: &[u32], from: usize) -> Result<(), Check>
-    requires from_bound { (from ≤ record_count batch.now) × (length batch.now ≡ batch_words (record_count batch.now)) }
-    requires from_value { first_bad (row_of fault batch.now) (batch_words from) ≡ None }
-    ensures { result ≡ word_row fault batch.now }
+fn check_word_row(fault: BatchWordsFault, batch: &WholeBatch<'_>, from: usize) -> Result<(), Check>
+    requires from_bound { from ≤ record_count batch.now.words.now }
+    requires from_value { first_bad (row_of fault batch.now.words.now) (batch_words from) ≡ None }
+    ensures { result ≡ word_row fault batch.now.words.now }
 {
-    if let Some(i) = first_in_batch(fault, batch, from, record_count(batch)) {
-        return Err(Check::BatchWords(fault, i));
-    }
-    Ok(())
+    let found = first_in_batch(fault, batch, from);
+    rows::check_row(found, |i| Check::BatchWords(fault, i))
 }
 
 // The three rows, where no record before `from` is bad.
 #[tactic(auto, using(model::proofs::Verdicts::verdicts), unfolding(model::specs::BatchChecks::word_check))]
-fn check_rows(batch: &[u32], from: usize) -> Result<(), Check>
-    requires from_bound { (from ≤ record_count batch.now) × (length batch.now ≡ batch_words (record_count batch.now)) }
-    requires from_value { first_bad (bad_record batch.now) from ≡ None }
-    ensures { result ≡ word_check batch.now }
+fn check_rows(batch: &WholeBatch<'_>, from: usize) -> Result<(), Check>
+    requires from_bound { from ≤ record_count batch.now.words.now }
+    requires from_value { first_bad (bad_record batch.now.words.now) from ≡ None }
+    ensures { result ≡ word_check batch.now.words.now }
 {
-    check_row(BatchWordsFault::WrongKind, batch, from)?;
-    check_row(BatchWordsFault::OutOfRange, batch, from)?;
-    check_row(BatchWordsFault::MinusZero, batch, from)
+    check_word_row(BatchWordsFault::WrongKind, batch, from)?;
+    check_word_row(BatchWordsFault::OutOfRange, batch, from)?;
+    check_word_row(BatchWordsFault::MinusZero, batch, from)
 }
 
-// The same in one pass over the records where none is bad.
-pub fn check_words(batch: &[u32]) -> Result<(), Check>
-    requires { length batch.now ≡ batch_words (record_count batch.now) }
-    ensures { result ≡ word_check batch.now }
+// The same by one pass over the records: the rows are tried from the first bad one on.
+pub fn check_words(batch: &WholeBatch<'_>) -> Result<(), Check>
+    ensures { result ≡ word_check batch.now.words.now }
 {
-    match first_bad_record(batch, record_count(batch)) {
+    match first_bad_record(batch.words, batch.record_count()) {
         Some(r) => check_rows(batch, r),
         None => Ok(()),
     }

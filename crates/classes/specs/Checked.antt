@@ -4,10 +4,10 @@ use Rattle.std.proofs.Common.{arith}
 use Rattle.model.specs.Outcomes.{Verdict}
 use Rattle.model.specs.DayChecks.{day_check}
 use Rattle.model.specs.DayFile.{class_count, series_count, class_at, series_at}
-use Rattle.model.proofs.Accepted.{DayRows, day_checked}
+use Rattle.model.proofs.Accepted.{DayRows, day_checked, day_pass}
 use Rattle.classes.specs.Tables.{Day, accepted_day, class_inside}
 
-passed : (v : Verdict) → is_ok v ≡ true → v ≡ Ok tt
+pub passed : (v : Verdict) → is_ok v ≡ true → v ≡ Ok tt
 passed (Ok _) e = refl
 passed (Err k) e = cc
 
@@ -20,6 +20,10 @@ checked_passed d e = passed (day_check d) e
 
 pub checked_rows : (d : List ℕ) → Checked d → DayRows d
 checked_rows d e = day_checked d (checked_passed d e)
+
+-- nothing more than the rows is asked
+pub rows_checked : (d : List ℕ) → DayRows d → Checked d
+rows_checked d r = rw (day_pass d r) refl
 
 pub checked_day : (d : List ℕ) → Checked d → Day d
 checked_day d e = accepted_day d (checked_rows d e)

@@ -44,23 +44,17 @@ impl CheckedDay<'_> {
         requires { c < class_count self.now.words.now }
         ensures { (result.day.now ≡ self.now.words.now) × (result.place ≡ c) }
     {
-        Class {
-            day: self.words,
-            place: c,
-        }
+        Class::new(self.words, c)
     }
 
     pub fn series(&self, s: usize) -> Series<'_>
         requires { s < series_count self.now.words.now }
         ensures { (result.day.now ≡ self.now.words.now) × (result.place ≡ s) }
     {
-        Series {
-            day: self.words,
-            place: s,
-        }
+        Series::new(self.words, s)
     }
 
-    // The series of class c.
+    // The places of the series of class c.
     pub fn series_of(&self, c: usize) -> Range<usize>
         requires { c < class_count self.now.words.now }
         ensures range { (result.start ≡ start_of self.now.words.now c) × (result.end ≡ start_of self.now.words.now (c + 1)) }

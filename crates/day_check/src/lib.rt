@@ -1,17 +1,18 @@
 // The checks of a day file: rows 10 to 17, each over all records before the next.
 #![tactic(auto)]
 
-ghost use Rattle.std.specs.Prelude.{◌≡◌, length};
-ghost use Rattle.model.specs.DayFile.{class_count, series_count, day_words};
+ghost use Rattle.std.specs.Prelude.{◌≡◌};
 ghost use Rattle.model.specs.DayChecks.{row10, row11, record_check, day_check};
 
 use day_classes::check_classes;
+use day_file::whole::WholeDay;
 use day_file::{
     CLASS_WORDS, MOST_CLASSES, MOST_SERIES, SERIES_WORDS, class_count, day_header, series_count,
 };
 use day_series::check_series;
 use day_words::{first_bad_record, record_count};
 use model::{Check, DayHeaderFault, DayLengthFault, DayWordsFault};
+use rows::check_row;
 use words::{Kind, bits, has_kind, payload};
 
 // Row 10: no words, wrong kind, spare bits, C or S too large.
@@ -37,13 +38,11 @@ fn bad_length(day: &[u32]) -> bool
 
 // Rows 12 to 17.
 #[tactic(auto, using(model::proofs::Verdicts::verdicts), unfolding(model::specs::DayChecks::record_check))]
-fn check_records(day: &[u32]) -> Result<(), Check>
-    requires { length day.now ≡ day_words (class_count day.now) (series_count day.now) }
-    ensures { result ≡ record_check day.now }
+fn check_records(day: &WholeDay<'_>) -> Result<(), Check>
+    ensures { result ≡ record_check day.now.words.now }
 {
-    if let Some(i) = first_bad_record(day, record_count(day)) {
-        return Err(Check::DayWords(DayWordsFault::BadDayWord, i));
-    }
+    let bad = first_bad_record(day, record_count(day.words));
+    check_row(bad, |i| Check::DayWords(DayWordsFault::BadDayWord, i))?;
     check_classes(day)?;
     check_series(day)
 }
@@ -59,5 +58,5 @@ pub fn check_day(day: &[u32]) -> Result<(), Check>
     if bad_length(day) {
         return Err(Check::DayLength(DayLengthFault::BadDayLength, 0));
     }
-    check_records(day)
+    check_records(&WholeDay { words: day })
 }

@@ -1,17 +1,18 @@
 // Row 12: the words of every record, classes then series.
 #![tactic(auto)]
 
-ghost use Rattle.std.specs.Prelude.{◌≡◌, ◌+◌, ◌≤◌, ◌<◌, length};
+ghost use Rattle.std.specs.Prelude.{◌≡◌, ◌+◌, ◌≤◌, ◌<◌};
 ghost use Rattle.numbers.specs.Scan.{first_bad};
 ghost use Rattle.model.specs.Words.{bad_price};
-ghost use Rattle.model.specs.DayFile.{class_count, series_count, day_words, class_words, series_words};
-ghost use Rattle.model.specs.DayChecks.{bad_class_word, bad_series_word, bad_class, bad_series, row12};
+ghost use Rattle.model.specs.DayFile.{class_count, series_count};
+ghost use Rattle.model.specs.DayChecks.{bad_class, bad_series, row12};
 
 use accumulator::Points;
+use day_file::whole::WholeDay;
 use day_file::{
     CLASS_WORDS, Class, GROUPS, SERIES_WORDS, Series, WHOLE_OFFSET, class_count, series_count,
 };
-use words::{Kind, PAYLOAD_LIMIT, bad_word};
+use words::{Kind, PAYLOAD_LIMIT};
 
 // The largest multiplier.
 const MULTIPLIER_LIMIT: u32 = 10000;
@@ -29,61 +30,39 @@ fn bad_price(w: u32) -> bool
     w < ZERO_PRICE || Points::price_too_large(w - ZERO_PRICE)
 }
 
-// Word i of a class: the key, the offset, or a price or rate.
-#[tactic(auto, unfolding(model::specs::DayChecks::bad_class_word))]
-fn bad_class_word(class: &Class, i: usize) -> bool
-    requires { i < class_words }
-    ensures { result ≡ bad_class_word class.now.day.now class.now.place i }
-{
-    match i {
-        0 => bad_word(class.word(0), Kind::Key, CLASS_KEY_LIMIT),
-        9 => bad_word(class.word(9), Kind::Count, WHOLE_OFFSET),
-        _ => bad_price(class.word(i)),
-    }
-}
-
-// A class: its words, and its group.
+// A class: its key, its offset, its prices and rates, and its group.
 fn bad_class(class: &Class) -> bool
     ensures { result ≡ bad_class class.now.day.now class.now.place }
 {
-    (0..CLASS_WORDS).any(|i| bad_class_word(class, i)) || GROUPS <= class.group()
+    (0..CLASS_WORDS).any(|i| match i {
+        0 => Kind::Key.refuses(class.word(0), CLASS_KEY_LIMIT),
+        9 => Kind::Count.refuses(class.word(9), WHOLE_OFFSET),
+        _ => bad_price(class.word(i)),
+    }) || GROUPS <= class.group()
 }
 
-// Word i of a series: the key (no spare bit), the multiplier, or a price.
-#[tactic(auto, unfolding(model::specs::DayChecks::bad_series_word))]
-fn bad_series_word(series: &Series, i: usize) -> bool
-    requires { i < series_words }
-    ensures { result ≡ bad_series_word series.now.day.now series.now.place i }
-{
-    match i {
-        0 => bad_word(series.word(0), Kind::Key, PAYLOAD_LIMIT),
-        1 => bad_word(series.word(1), Kind::Count, MULTIPLIER_LIMIT),
-        _ => bad_price(series.word(i)),
-    }
-}
-
-// A series: its words, and its multiplier, not 0.
+// A series: its key (no spare bit), its multiplier, not 0, and its prices. One function for both records would take each limit and place.
 fn bad_series(series: &Series) -> bool
     ensures { result ≡ bad_series series.now.day.now series.now.place }
 {
-    (0..SERIES_WORDS).any(|i| bad_series_word(series, i)) || series.multiplier() == 0
+    (0..SERIES_WORDS).any(|i| match i {
+        0 => Kind::Key.refuses(series.word(0), PAYLOAD_LIMIT),
+        1 => Kind::Count.refuses(series.word(1), MULTIPLIER_LIMIT),
+        _ => bad_price(series.word(i)),
+    }) || series.multiplier() == 0
 }
 
 // Record i, classes then series.
 #[tactic(auto, unfolding(model::specs::DayChecks::row12))]
-fn bad_record(day: &[u32], i: usize) -> bool
-    requires day_len { length day.now ≡ day_words (class_count day.now) (series_count day.now) }
-    requires i_bound { i < class_count day.now + series_count day.now }
-    ensures { result ≡ row12 day.now i }
+fn bad_record(day: &WholeDay<'_>, i: usize) -> bool
+    requires { i < class_count day.now.words.now + series_count day.now.words.now }
+    ensures { result ≡ row12 day.now.words.now i }
 {
-    let classes = class_count(day);
+    let classes = class_count(day.words);
     if i < classes {
-        bad_class(&Class { day, place: i })
+        bad_class(&day.class(i))
     } else {
-        bad_series(&Series {
-            day,
-            place: i - classes,
-        })
+        bad_series(&day.series(i - classes))
     }
 }
 
@@ -93,10 +72,9 @@ pub fn record_count(day: &[u32]) -> usize
     class_count(day) + series_count(day)
 }
 
-pub fn first_bad_record(day: &[u32], count: usize) -> Option<usize>
-    requires day_len { length day.now ≡ day_words (class_count day.now) (series_count day.now) }
-    requires count_bound { count ≤ class_count day.now + series_count day.now }
-    ensures { result ≡ first_bad (row12 day.now) count }
+pub fn first_bad_record(day: &WholeDay<'_>, count: usize) -> Option<usize>
+    requires { count ≤ class_count day.now.words.now + series_count day.now.words.now }
+    ensures { result ≡ first_bad (row12 day.now.words.now) count }
 {
     (0..count).find(|&i| bad_record(day, i))
 }

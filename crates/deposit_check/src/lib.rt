@@ -4,7 +4,6 @@
 ghost use Rattle.std.specs.Prelude.{◌≡◌, ◌<◌, Some};
 ghost use Rattle.numbers.specs.Distinct.{again};
 ghost use Rattle.numbers.specs.Scan.{first_bad};
-ghost use Rattle.model.specs.Rows.{found_row};
 ghost use Rattle.model.specs.DayFile.{class_count, series_count};
 ghost use Rattle.model.specs.Deposits.{named_number};
 ghost use Rattle.model.specs.DepositChecks.{odd_words, row50, unlike as unlike_of, row51, deposit_check};
@@ -14,6 +13,7 @@ ghost use Rattle.deposit_check.specs.Unlike.{differing};
 use classes::day::CheckedDay;
 use deposits::{DEPOSIT_WORDS, Deposit, class_with, deposit_count};
 use model::{Check, NettingFault};
+use rows::check_records;
 
 // The most shares of a deposit.
 const SHARES_LIMIT: u32 = 10000000;
@@ -44,7 +44,7 @@ fn bad_deposit(day: &CheckedDay<'_>, deposit: &Deposit) -> bool
         || SHARES_LIMIT < deposit.shares()
 }
 
-// The first of the series of class c that deposits cover.
+// The first of the series of class c that deposits cover. A day and a place: a view of both would hold the same bound on the place.
 fn first_coverable(day: &CheckedDay<'_>, c: usize) -> Option<usize>
     requires { c < class_count day.now.words.now }
     ensures { result ≡ first_bad (coverable_of day.now.words.now c) (series_count day.now.words.now) }
@@ -70,7 +70,7 @@ fn any_differs(day: &CheckedDay<'_>, c: usize, first: usize) -> bool
     (first..day.series_of(c).end).any(|s| differs(day, first, s))
 }
 
-// The series of class c that deposits cover have unlike multipliers.
+// The series of class c that deposits cover have unlike multipliers. No `is_some_and`: its contract says nothing of what the closure gives.
 fn unlike(day: &CheckedDay<'_>, c: usize) -> bool
     requires { c < class_count day.now.words.now }
     ensures { result ≡ unlike_of day.now.words.now c }
@@ -91,16 +91,6 @@ fn unlike_class(day: &CheckedDay<'_>, deposit: &Deposit) -> bool
     }
 }
 
-// A row over the deposits: refused at the first that was found.
-fn check_row(fault: NettingFault, found: Option<usize>) -> Result<(), Check>
-    ensures { result ≡ found_row (Check.Netting fault) found }
-{
-    match found {
-        Some(i) => Err(Check::Netting(fault, i)),
-        None => Ok(()),
-    }
-}
-
 // Rows 50 and 51.
 #[tactic(auto, using(model::proofs::Verdicts::verdicts), unfolding(model::specs::DepositChecks::deposit_check))]
 pub fn check_deposits(day: &CheckedDay<'_>, deposits: &[u32]) -> Result<(), Check>
@@ -110,8 +100,14 @@ pub fn check_deposits(day: &CheckedDay<'_>, deposits: &[u32]) -> Result<(), Chec
         return Err(Check::Netting(NettingFault::BadDeposit, 0));
     }
     let count = deposit_count(deposits);
-    let bad = (0..count).find(|&i| bad_deposit(day, &Deposit::new(deposits, i)));
-    check_row(NettingFault::BadDeposit, bad)?;
-    let unlike = (0..count).find(|&i| unlike_class(day, &Deposit::new(deposits, i)));
-    check_row(NettingFault::UnlikeMultipliers, unlike)
+    check_records(
+        count,
+        |i| bad_deposit(day, &Deposit::new(deposits, i)),
+        |i| Check::Netting(NettingFault::BadDeposit, i),
+    )?;
+    check_records(
+        count,
+        |i| unlike_class(day, &Deposit::new(deposits, i)),
+        |i| Check::Netting(NettingFault::UnlikeMultipliers, i),
+    )
 }

@@ -18,7 +18,7 @@ pub fn deposit_count(deposits: &[u32]) -> usize
     deposits.len() / DEPOSIT_WORDS
 }
 
-// A deposit, whose words are there.
+// A deposit, whose words are there: a view as those of day_file and batch, with another list, fact and unit.
 #[derive(Clone, Copy)]
 pub struct Deposit<'a> {
     pub deposits: &'a [u32],

@@ -4,10 +4,9 @@
 ghost use Rattle.std.specs.Prelude.{◌≡◌, cond, pos, length};
 ghost use Rattle.numbers.specs.Table.{tabulate};
 ghost use Rattle.model.specs.Netting.{net as net_of, dvp as dvp_of, position_count};
-ghost use Rattle.netting.specs.Limits.{Limited};
 ghost use Rattle.netting_times.specs.Netted.{netted};
 
-use netting::POSITIONS;
+use netting::{LimitedBatch, POSITIONS};
 
 // A table of zeros.
 fn clear(table: &mut [i64])
@@ -18,11 +17,10 @@ fn clear(table: &mut [i64])
 }
 
 // The batch netted into two tables of any content.
-fn net_again(batch: &[u32], nets: &mut [i64], dvps: &mut [i64])
-    requires limited { Limited batch.now }
+fn net_again(batch: &LimitedBatch<'_>, nets: &mut [i64], dvps: &mut [i64])
     requires nets_len { (length nets.old ≡ position_count) × (length dvps.old ≡ position_count) }
-    ensures nets_after { nets.new ≡ tabulate position_count (net_of batch.now) }
-    ensures dvps_after { dvps.new ≡ tabulate position_count (dvp_of batch.now) }
+    ensures nets_after { nets.new ≡ tabulate position_count (net_of batch.now.words.now) }
+    ensures dvps_after { dvps.new ≡ tabulate position_count (dvp_of batch.now.words.now) }
 {
     clear(nets);
     clear(dvps);
@@ -30,11 +28,10 @@ fn net_again(batch: &[u32], nets: &mut [i64], dvps: &mut [i64])
 }
 
 // The same, and `times` times more.
-fn net_more(batch: &[u32], nets: &mut [i64], dvps: &mut [i64], times: u32)
-    requires limited { Limited batch.now }
+fn net_more(batch: &LimitedBatch<'_>, nets: &mut [i64], dvps: &mut [i64], times: u32)
     requires nets_len { (length nets.old ≡ position_count) × (length dvps.old ≡ position_count) }
-    ensures nets_after { nets.new ≡ tabulate position_count (net_of batch.now) }
-    ensures dvps_after { dvps.new ≡ tabulate position_count (dvp_of batch.now) }
+    ensures nets_after { nets.new ≡ tabulate position_count (net_of batch.now.words.now) }
+    ensures dvps_after { dvps.new ≡ tabulate position_count (dvp_of batch.now.words.now) }
 {
     net_again(batch, nets, dvps);
     for _ in 0..times {
@@ -49,7 +46,7 @@ fn can_net(day: &[u32], batch: &[u32], n: usize, m: usize) -> bool
     batch_check::check_batch(day, batch).is_ok() & (n == POSITIONS) & (m == POSITIONS)
 }
 
-// 1 and both tables netted 1 + times times; or 0 and both as they were.
+// 1 and both tables netted 1 + times times; or 0 and both as they were: numbers, and slices with their lengths, as C gives and takes them.
 pub fn mars_net_times(
     day: &[u32],
     batch: &[u32],
@@ -62,7 +59,7 @@ pub fn mars_net_times(
     ensures dvps { dvps.new ≡ cond (netted day.now batch.now (length nets.old) (length dvps.old)) (tabulate position_count (dvp_of batch.now)) dvps.old }
 {
     if can_net(day, batch, nets.len(), dvps.len()) {
-        net_more(batch, nets, dvps, times);
+        net_more(&LimitedBatch { words: batch }, nets, dvps, times);
         return 1;
     }
     0

@@ -2,25 +2,19 @@
 #![tactic(auto)]
 
 ghost use Rattle.std.specs.Prelude.{◌≡◌};
-ghost use Rattle.model.specs.DayFile.{series_type, is_option, is_security};
+ghost use Rattle.model.specs.DayFile.{series_type};
 ghost use Rattle.model.specs.Batch.{place};
 ghost use Rattle.model.specs.BatchChecks.{row23, row24, row25, row26};
 
 use batch::Record;
 use day_file::{series_count, series_type_at};
+use series_types::{is_option, is_security};
 
-// The series of a record is a call or a put.
-fn names_option(day: &[u32], r: &Record) -> bool
-    ensures { result ≡ is_option (series_type day.now (place r.now.batch.now r.now.index)) }
+// The number of the type of a record's series, of any bits where the series is not there.
+fn type_of(day: &[u32], r: &Record) -> u32
+    ensures { result ≡ series_type day.now (place r.now.batch.now r.now.index) }
 {
-    series_type_at(day, r.place()).is_ok_and(|t| t.is_option())
-}
-
-// The series of a record is a security.
-fn names_security(day: &[u32], r: &Record) -> bool
-    ensures { result ≡ is_security (series_type day.now (place r.now.batch.now r.now.index)) }
-{
-    series_type_at(day, r.place()).is_ok_and(|t| t.is_security())
+    series_type_at(day, r.place())
 }
 
 // Row 23 of a record: its series place is not below S.
@@ -36,7 +30,7 @@ pub fn series_absent(day: &[u32], r: &Record) -> bool
 pub fn exercised_non_option(day: &[u32], r: &Record) -> bool
     ensures { result ≡ row24 day.now r.now.batch.now r.now.index }
 {
-    r.is_exercised() && !names_option(day, r)
+    r.is_exercised() && !is_option(type_of(day, r))
 }
 
 // Row 25 of a record: bit 9 on a non-security.
@@ -44,7 +38,7 @@ pub fn exercised_non_option(day: &[u32], r: &Record) -> bool
 pub fn fail_non_security(day: &[u32], r: &Record) -> bool
     ensures { result ≡ row25 day.now r.now.batch.now r.now.index }
 {
-    r.is_fail() && !names_security(day, r)
+    r.is_fail() && !is_security(type_of(day, r))
 }
 
 // Row 26 of a record: DVP not 0 on a non-security.
@@ -52,5 +46,5 @@ pub fn fail_non_security(day: &[u32], r: &Record) -> bool
 pub fn dvp_non_security(day: &[u32], r: &Record) -> bool
     ensures { result ≡ row26 day.now r.now.batch.now r.now.index }
 {
-    0 < r.dvp_size() && !names_security(day, r)
+    0 < r.dvp_size() && !is_security(type_of(day, r))
 }

@@ -1,39 +1,41 @@
-use Rattle.std.proofs.Common.{rules, refl}
-use Rattle.numbers.specs.Finding.{find_below}
+use Rattle.std.proofs.Common.{rules}
+use Rattle.model.specs.declared.Check.TheVariants.{Positions}
+use Rattle.model.specs.declared.PositionFault.TheVariants.{SeriesAbsent, ExercisedNonOption, FailNonSecurity, DvpNonSecurity}
+use Rattle.model.specs.Rows.{tried}
 use Rattle.model.specs.BatchChecks.{row23, row24, row25, row26, position_check}
 use Rattle.model.proofs.Verdicts.{verdicts}
 use Rattle.batch_positions.proofs.check_positions.Goals as goal
 
-pub returns-in_err-check_row : goal.returns-in_err-check_row
-unfolding position_check
-returns-in_err-check_row c =
+pub returns-in_err-check_records : goal.returns-in_err-check_records
+unfolding position_check tried
+returns-in_err-check_records c =
     let a = c.args in
-    let e1 = rw (find_below _ (row23 a.day.now a.batch.now) c.find-absent.ensures.ran (λ x v q k. search rules) refl, c.record_count-count.ensures) at c.check_row.ensures in
+    let e1 = rw c.record_count-count.ensures at c.check_records.ensures (Positions SeriesAbsent) (row23 a.day.now a.batch.now.words.now) (λ i k p. search rules) (λ i v p. search rules) in
     search (verdicts, rules)
 
-pub returns-in_err-check_row-2 : goal.returns-in_err-check_row-2
-unfolding position_check
-returns-in_err-check_row-2 c =
+pub returns-in_err-check_records-2 : goal.returns-in_err-check_records-2
+unfolding position_check tried
+returns-in_err-check_records-2 c =
     let a = c.args in
-    let e1 = rw (find_below _ (row23 a.day.now a.batch.now) c.find-absent.ensures.ran (λ x v q k. search rules) refl, c.record_count-count.ensures) at c.check_row.ensures in
-    let e2 = rw (find_below _ (row24 a.day.now a.batch.now) c.find-exercised.ensures.ran (λ x v q k. search rules) refl, c.record_count-count.ensures) at c.check_row-2.ensures in
+    let e1 = rw c.record_count-count.ensures at c.check_records.ensures (Positions SeriesAbsent) (row23 a.day.now a.batch.now.words.now) (λ i k p. search rules) (λ i v p. search rules) in
+    let e2 = rw c.record_count-count.ensures at c.check_records-2.ensures (Positions ExercisedNonOption) (row24 a.day.now a.batch.now.words.now) (λ i k p. search rules) (λ i v p. search rules) in
     search (verdicts, rules)
 
-pub returns-in_err-check_row-3 : goal.returns-in_err-check_row-3
-unfolding position_check
-returns-in_err-check_row-3 c =
+pub returns-in_err-check_records-3 : goal.returns-in_err-check_records-3
+unfolding position_check tried
+returns-in_err-check_records-3 c =
     let a = c.args in
-    let e1 = rw (find_below _ (row23 a.day.now a.batch.now) c.find-absent.ensures.ran (λ x v q k. search rules) refl, c.record_count-count.ensures) at c.check_row.ensures in
-    let e2 = rw (find_below _ (row24 a.day.now a.batch.now) c.find-exercised.ensures.ran (λ x v q k. search rules) refl, c.record_count-count.ensures) at c.check_row-2.ensures in
-    let e3 = rw (find_below _ (row25 a.day.now a.batch.now) c.find-fail.ensures.ran (λ x v q k. search rules) refl, c.record_count-count.ensures) at c.check_row-3.ensures in
+    let e1 = rw c.record_count-count.ensures at c.check_records.ensures (Positions SeriesAbsent) (row23 a.day.now a.batch.now.words.now) (λ i k p. search rules) (λ i v p. search rules) in
+    let e2 = rw c.record_count-count.ensures at c.check_records-2.ensures (Positions ExercisedNonOption) (row24 a.day.now a.batch.now.words.now) (λ i k p. search rules) (λ i v p. search rules) in
+    let e3 = rw c.record_count-count.ensures at c.check_records-3.ensures (Positions FailNonSecurity) (row25 a.day.now a.batch.now.words.now) (λ i k p. search rules) (λ i v p. search rules) in
     search (verdicts, rules)
 
 pub returns : goal.returns
-unfolding position_check
+unfolding position_check tried
 returns c =
     let a = c.args in
-    let e1 = rw (find_below _ (row23 a.day.now a.batch.now) c.find-absent.ensures.ran (λ x v q k. search rules) refl, c.record_count-count.ensures) at c.check_row.ensures in
-    let e2 = rw (find_below _ (row24 a.day.now a.batch.now) c.find-exercised.ensures.ran (λ x v q k. search rules) refl, c.record_count-count.ensures) at c.check_row-2.ensures in
-    let e3 = rw (find_below _ (row25 a.day.now a.batch.now) c.find-fail.ensures.ran (λ x v q k. search rules) refl, c.record_count-count.ensures) at c.check_row-3.ensures in
-    let e4 = rw (find_below _ (row26 a.day.now a.batch.now) c.find-dvp.ensures.ran (λ x v q k. search rules) refl, c.record_count-count.ensures) at c.check_row-4.ensures in
+    let e1 = rw c.record_count-count.ensures at c.check_records.ensures (Positions SeriesAbsent) (row23 a.day.now a.batch.now.words.now) (λ i k p. search rules) (λ i v p. search rules) in
+    let e2 = rw c.record_count-count.ensures at c.check_records-2.ensures (Positions ExercisedNonOption) (row24 a.day.now a.batch.now.words.now) (λ i k p. search rules) (λ i v p. search rules) in
+    let e3 = rw c.record_count-count.ensures at c.check_records-3.ensures (Positions FailNonSecurity) (row25 a.day.now a.batch.now.words.now) (λ i k p. search rules) (λ i v p. search rules) in
+    let e4 = rw c.record_count-count.ensures at c.check_records-4.ensures (Positions DvpNonSecurity) (row26 a.day.now a.batch.now.words.now) (λ i k p. search rules) (λ i v p. search rules) in
     search (verdicts, rules)

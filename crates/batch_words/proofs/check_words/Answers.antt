@@ -26,4 +26,4 @@ check_rows-requires-clause-from_value c =
 pub returns-in-None : goal.returns-in-None
 returns-in-None c =
     let s = c.args in
-    sym (words_pass s.batch.now (ap (first_bad (bad_record s.batch.now)) (sym c.record_count.ensures) ∙ sym c.first_bad_record.ensures ∙ c.in-None.is))
+    sym (words_pass s.batch.now.words.now (ap (first_bad (bad_record s.batch.now.words.now)) (sym c.record_count.ensures) ∙ sym c.first_bad_record.ensures ∙ c.in-None.is))

@@ -1,22 +1,22 @@
-use Rattle.std.proofs.Common.{rules, refl}
-use Rattle.numbers.specs.Finding.{find_below}
+use Rattle.std.proofs.Common.{rules}
+use Rattle.model.specs.declared.Check.TheVariants.{Netting}
+use Rattle.model.specs.declared.NettingFault.TheVariants.{BadDeposit, UnlikeMultipliers}
+use Rattle.model.specs.Rows.{tried}
 use Rattle.model.specs.DepositChecks.{row50, row51, deposit_check}
 use Rattle.model.proofs.Verdicts.{verdicts}
 use Rattle.deposit_check.proofs.check_deposits.Goals as goal
 
-pub returns-in_err-check_row : goal.returns-in_err-check_row
-unfolding deposit_check
-returns-in_err-check_row c =
-    let d = c.args.day.now.words.now in
-    let x = c.args.deposits.now in
-    let e = rw (find_below _ (row50 d x) c.find-bad.ensures.ran (λ x v q k. search rules) refl, c.deposit_count-count.ensures) at c.check_row.ensures in
+pub returns-in_err-check_records : goal.returns-in_err-check_records
+unfolding deposit_check tried
+returns-in_err-check_records c =
+    let a = c.args in
+    let e1 = rw c.deposit_count-count.ensures at c.check_records.ensures (Netting BadDeposit) (row50 a.day.now.words.now a.deposits.now) (λ i k p. search rules) (λ i v p. search rules) in
     search (verdicts, rules)
 
 pub returns : goal.returns
-unfolding deposit_check
+unfolding deposit_check tried
 returns c =
-    let d = c.args.day.now.words.now in
-    let x = c.args.deposits.now in
-    let e = rw (find_below _ (row50 d x) c.find-bad.ensures.ran (λ x v q k. search rules) refl, c.deposit_count-count.ensures) at c.check_row.ensures in
-    let f = rw (find_below _ (row51 d x) c.find-unlike.ensures.ran (λ x v q k. search rules) refl, c.deposit_count-count.ensures) at c.check_row-2.ensures in
+    let a = c.args in
+    let e1 = rw c.deposit_count-count.ensures at c.check_records.ensures (Netting BadDeposit) (row50 a.day.now.words.now a.deposits.now) (λ i k p. search rules) (λ i v p. search rules) in
+    let e2 = rw c.deposit_count-count.ensures at c.check_records-2.ensures (Netting UnlikeMultipliers) (row51 a.day.now.words.now a.deposits.now) (λ i k p. search rules) (λ i v p. search rules) in
     search (verdicts, rules)

@@ -5,9 +5,9 @@ use Rattle.model.specs.Batch.{dvp_amount, key}
 use Rattle.netting.specs.Laws.{change}
 use Rattle.numbers.specs.Slots.{slots}
 
-abbrev pub invariant-loop-index : goal.invariant-loop-index
-invariant-loop-index l =
+abbrev pub invariant-loop-r : goal.invariant-loop-r
+invariant-loop-r l =
     record {
-      nets : l.nets ≡ slots position_count (key l.batch) (change l.batch) l.index;
-      dvps : l.dvps ≡ slots position_count (key l.batch) (dvp_amount l.batch) l.index;
+      nets : l.nets ≡ slots position_count (key l.fn.batch.words.now) (change l.fn.batch.words.now) l.r;
+      dvps : l.dvps ≡ slots position_count (key l.fn.batch.words.now) (dvp_amount l.fn.batch.words.now) l.r;
     }

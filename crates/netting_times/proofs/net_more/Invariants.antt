@@ -6,4 +6,4 @@ use Rattle.netting_times.proofs.net_more.Given as goal
 abbrev pub invariant-loop : goal.invariant-loop
 invariant-loop l =
     (length l.nets ≡ position_count) × (length l.dvps ≡ position_count)
-    × (l.nets ≡ tabulate position_count (net l.batch)) × (l.dvps ≡ tabulate position_count (dvp l.batch))
+    × (l.nets ≡ tabulate position_count (net l.fn.batch.words.now)) × (l.dvps ≡ tabulate position_count (dvp l.fn.batch.words.now))
