@@ -7,8 +7,7 @@ ghost use Rattle.positions.specs.Books.{book_number};
 
 use classes::day::CheckedDay;
 use day_file::GROUPS;
-use positions::Book;
-use presence::groups_held;
+use presence::{BookTables, groups_held};
 
 // The map with bit g of value `bit`, if it is set.
 fn with_bit(map: u32, bit: u32, set: bool) -> u32
@@ -18,10 +17,10 @@ fn with_bit(map: u32, bit: u32, set: bool) -> u32
     if set { map + bit } else { map }
 }
 
-pub fn book_map(day: &CheckedDay, nets: &[i64], dvps: &[i64], book: Book) -> u32
-    ensures { (result ≡ book_map day.now.words.now (entry nets.now) (entry dvps.now) (book_number book)) × (result < 2 ^ group_count) }
+pub fn book_map(day: &CheckedDay, of: &BookTables) -> u32
+    ensures { (result ≡ book_map day.now.words.now (entry of.now.nets.now) (entry of.now.dvps.now) (book_number of.now.book)) × (result < 2 ^ group_count) }
 {
-    let held = groups_held(day, nets, dvps, book);
+    let held = groups_held(day, of);
     let mut map: u32 = 0;
     let mut bit: u32 = 1;
     for g in 0..GROUPS {

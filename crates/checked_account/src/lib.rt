@@ -10,7 +10,7 @@ use covered_report::report_covered;
 use holdings::Holdings;
 use model::Check;
 use net_check::check_nets;
-use netting::{POSITIONS, net_positions};
+use netting::{LimitedBatch, POSITIONS, net_positions};
 
 // Rows 30, 50, 51 and 40, and the report.
 pub fn report_checked(
@@ -25,8 +25,9 @@ pub fn report_checked(
 {
     let mut nets = [0i64; POSITIONS];
     let mut dvps = [0i64; POSITIONS];
-    net_positions(batch, &mut nets, &mut dvps);
-    check_nets(day.words, batch, &nets)?;
+    let limited = LimitedBatch { words: batch };
+    net_positions(&limited, &mut nets, &mut dvps);
+    check_nets(day.words, &limited, &nets)?;
     let before = Holdings {
         day,
         nets: &nets,

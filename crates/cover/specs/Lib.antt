@@ -3,3 +3,4 @@ pub mod Shorts
 pub mod Before
 pub mod Keys
 pub mod Covered
+pub mod Accounts

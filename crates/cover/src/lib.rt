@@ -7,26 +7,26 @@ ghost use Rattle.model.specs.DayFile.{class_count, series_count, series_class};
 ghost use Rattle.model.specs.Deposits.{shares_of};
 ghost use Rattle.model.specs.Netting.{position_count};
 ghost use Rattle.model.specs.Steps.Cover.{covered};
-ghost use Rattle.model.proofs.Accepted.{DepositRows};
 ghost use Rattle.classes.specs.Range.{start_of};
+ghost use Rattle.cover.specs.Accounts.{account_day, account_net};
 ghost use Rattle.holdings.specs.Seen.{day_of, net_of};
 ghost use Rattle.cover.specs.Covered.{covered_with, covered_to};
 
-use classes::day::CheckedDay;
+use account::Account;
 use deposits::{Deposit, deposit_count};
-use holdings::Holdings;
 use order::{Order, order_keys, short_size};
 use positions::{Book, Holding, position_amount};
 
+pub mod account;
 mod order;
 
 // The shares deposited of class c: those of the one deposit that names it.
-fn deposited(day: &CheckedDay<'_>, deposits: &[u32], c: usize) -> u64
-    requires deposit_rows { DepositRows day.now.words.now deposits.now }
-    requires c_bound { c < class_count day.now.words.now }
-    ensures { result ≡ shares_of day.now.words.now deposits.now c }
+fn deposited(account: &Account<'_>, c: usize) -> u64
+    requires { c < class_count (account_day account.now) }
+    ensures { result ≡ shares_of (account_day account.now) account.now.deposits.now c }
 {
-    let number = day.class(c).number();
+    let number = account.holdings.day.class(c).number();
+    let deposits = account.deposits;
     match (0..deposit_count(deposits)).find(|&i| Deposit::new(deposits, i).number() == number) {
         Some(i) => u64::from(Deposit::new(deposits, i).shares()),
         None => 0,
@@ -43,12 +43,17 @@ fn contracts_covered(shares: u64, multiplier: u64) -> u64
 
 // The net of series s of class c after cover by the shares of its class.
 fn series_covered(order: &Order<'_>, c: usize, shares: u64, s: usize) -> i64
-    requires class_value { (c < class_count (day_of order.now.before.now)) × (series_class (day_of order.now.before.now) s ≡ c) }
-    requires s_bound { s < series_count (day_of order.now.before.now) }
-    ensures { result ≡ covered_with (day_of order.now.before.now) (net_of order.now.before.now) shares s }
+    requires class_value { (c < class_count (account_day order.now.account.now)) × (series_class (account_day order.now.account.now) s ≡ c) }
+    requires s_bound { s < series_count (account_day order.now.account.now) }
+    ensures { result ≡ covered_with (account_day order.now.account.now) (account_net order.now.account.now) shares s }
 {
-    let series = order.before.day.series(s);
-    let net = position_amount(order.before.nets, Book::Ordinary, Holding::Open, s);
+    let series = order.account.holdings.day.series(s);
+    let net = position_amount(
+        order.account.holdings.nets,
+        Book::Ordinary,
+        Holding::Open,
+        s,
+    );
     if !series.is_coverable() {
         return net;
     }
@@ -61,34 +66,32 @@ fn series_covered(order: &Order<'_>, c: usize, shares: u64, s: usize) -> i64
     short.saturating_sub(rest) as i64
 }
 
-// Covers the series of class c; those before them are covered.
-fn cover_class(order: &Order<'_>, deposits: &[u32], c: usize, after: &mut [i64])
-    requires deposit_rows { DepositRows (day_of order.now.before.now) deposits.now }
-    requires c_bound { c < class_count (day_of order.now.before.now) }
-    requires after_value { after.old ≡ covered_to (day_of order.now.before.now) deposits.now (net_of order.now.before.now) (start_of (day_of order.now.before.now) c) }
-    ensures { after.new ≡ covered_to (day_of order.now.before.now) deposits.now (net_of order.now.before.now) (start_of (day_of order.now.before.now) (c + 1)) }
+// Covers the series of class c; those before them are covered. A place beside the order: a view of both would hold the same bound.
+fn cover_class(order: &Order<'_>, c: usize, after: &mut [i64])
+    requires c_bound { c < class_count (account_day order.now.account.now) }
+    requires after_value { after.old ≡ covered_to (account_day order.now.account.now) order.now.account.now.deposits.now (account_net order.now.account.now) (start_of (account_day order.now.account.now) c) }
+    ensures { after.new ≡ covered_to (account_day order.now.account.now) order.now.account.now.deposits.now (account_net order.now.account.now) (start_of (account_day order.now.account.now) (c + 1)) }
 {
-    let shares = deposited(order.before.day, deposits, c);
+    let shares = deposited(order.account, c);
     if shares == 0 {
         return;
     }
-    let series = order.before.day.series_of(c);
+    let series = order.account.holdings.day.series_of(c);
     for s in series.start..series.end {
         after[s] = series_covered(order, c, shares, s);
     }
 }
 
 // The nets after cover. Classes without a deposit are passed over.
-pub fn cover(before: &Holdings<'_>, deposits: &[u32], after: &mut [i64])
-    requires deposit_rows { DepositRows (day_of before.now) deposits.now }
-    requires nets_len { length before.now.nets.now ≡ position_count }
+pub fn cover(account: &Account<'_>, after: &mut [i64])
+    requires nets_len { length account.now.holdings.now.nets.now ≡ position_count }
     requires after_len { length after.old ≡ position_count }
-    ensures { after.new ≡ tabulate position_count (covered (day_of before.now) deposits.now (net_of before.now)) }
+    ensures { after.new ≡ tabulate position_count (covered (account_day account.now) account.now.deposits.now (account_net account.now)) }
 {
-    after.copy_from_slice(before.nets);
-    let keys = order_keys(before);
-    let order = Order { before, keys };
-    for c in 0..before.day.class_count() {
-        cover_class(&order, deposits, c, after);
+    after.copy_from_slice(account.holdings.nets);
+    let keys = order_keys(account.holdings);
+    let order = Order { account, keys };
+    for c in 0..account.holdings.day.class_count() {
+        cover_class(&order, c, after);
     }
 }

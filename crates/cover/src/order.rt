@@ -4,9 +4,11 @@ ghost use Rattle.model.specs.DayFile.{class_count, series_count, series_class, s
 ghost use Rattle.model.specs.Netting.{places};
 ghost use Rattle.model.specs.Steps.Cover.{is_coverable, short_size, cover_before};
 ghost use Rattle.model.specs.Steps.Positions.{open_net};
+ghost use Rattle.cover.specs.Accounts.{account_day, account_net};
 ghost use Rattle.holdings.specs.Seen.{day_of, net_of};
 ghost use Rattle.cover.specs.Keys.{order_key, key_adds, key_table};
 
+use crate::account::Account;
 use day_file::MOST_SERIES;
 use holdings::Holdings;
 use positions::{Book, Holding, position_amount};
@@ -16,12 +18,12 @@ const EXPIRY_UNIT: u64 = MOST_SERIES as u64;
 
 const SHORT_UNIT: u64 = 4096 * EXPIRY_UNIT;
 
-// What an account holds before cover, and the order keys of all series.
+// An account, and the order keys of all series.
 #[derive(Drop)]
 pub(crate) struct Order<'a> {
-    pub before: &'a Holdings<'a>,
+    pub account: &'a Account<'a>,
     pub keys: [u64; MOST_SERIES],
-    pub ghost keys_value: { keys ≡ key_table (day_of before.now) (net_of before.now) },
+    pub ghost keys_value: { keys ≡ key_table (account_day account.now) (account_net account.now) },
 }
 
 // The contracts of a net short, 0 for a net long.
@@ -54,7 +56,7 @@ fn order_key(before: &Holdings<'_>, s: usize) -> u64
     SHORT_UNIT * short + EXPIRY_UNIT * expiry + (MOST_SERIES - 1 - s) as u64
 }
 
-// The order keys of all series.
+// The order keys of all series. One number a series, since a comparison part by part took up to four times as long (docs/DECISIONS.md).
 pub(crate) fn order_keys(before: &Holdings<'_>) -> [u64; MOST_SERIES]
     ensures { result ≡ key_table (day_of before.now) (net_of before.now) }
 {
@@ -75,13 +77,13 @@ fn key_adds(own: u64, key: u64) -> u64
 impl Order<'_> {
     // The net shorts of class c that are covered before that of its series s.
     pub(crate) fn covered_before(&self, c: usize, s: usize) -> u64
-        requires class_value { (c < class_count (day_of self.now.before.now)) × (series_class (day_of self.now.before.now) s ≡ c) }
-        requires s_bound { (s < series_count (day_of self.now.before.now)) × (is_coverable (series_type (day_of self.now.before.now) s) ≡ true) }
-        ensures { result ≡ cover_before (day_of self.now.before.now) (net_of self.now.before.now) s }
+        requires class_value { (c < class_count (account_day self.now.account.now)) × (series_class (account_day self.now.account.now) s ≡ c) }
+        requires s_bound { (s < series_count (account_day self.now.account.now)) × (is_coverable (series_type (account_day self.now.account.now) s) ≡ true) }
+        ensures { result ≡ cover_before (account_day self.now.account.now) (account_net self.now.account.now) s }
     {
         let own = self.keys[s];
         let mut sum: u64 = 0;
-        let series = self.before.day.series_of(c);
+        let series = self.account.holdings.day.series_of(c);
         for t in series.start..series.end {
             sum += key_adds(own, self.keys[t]);
         }

@@ -7,34 +7,35 @@ ghost use Rattle.model.specs.DepositChecks.{deposit_check};
 ghost use Rattle.model.specs.Netting.{position_count};
 ghost use Rattle.model.specs.Report.{report_words, words_needed};
 ghost use Rattle.model.specs.Steps.Cover.{covered};
-ghost use Rattle.model.proofs.Accepted.{DepositRows};
+ghost use Rattle.cover.specs.Accounts.{account_day, account_net};
 ghost use Rattle.holdings.specs.Seen.{day_of, net_of, dvp_of};
 
+use cover::account::Account;
 use deposit_check::check_deposits;
-use holdings::Holdings;
+use holdings::{CoveredHoldings, Holdings};
 use model::Check;
 use netting::POSITIONS;
 use report_writer::report_accepted;
 
 // Row 40, or the report, with deposits that passed their rows: the nets after cover in a table of their own.
-fn report_reduced(
-    before: &Holdings<'_>,
-    deposits: &[u32],
-    memory: &mut [u32],
-) -> Result<usize, Check>
-    requires deposit_rows { DepositRows (day_of before.now) deposits.now }
-    requires nets_len { length before.now.nets.now ≡ position_count }
-    ensures value { result ≡ room_answer (words_needed (day_of before.now) (net_of before.now) (dvp_of before.now)) (length memory.old) }
-    ensures memory_after { memory.new ≡ written result (report_words (day_of before.now) (net_of before.now) (covered (day_of before.now) deposits.now (net_of before.now)) (dvp_of before.now)) memory.old }
+fn report_reduced(account: &Account<'_>, memory: &mut [u32]) -> Result<usize, Check>
+    requires { length account.now.holdings.now.nets.now ≡ position_count }
+    ensures value { result ≡ room_answer (words_needed (account_day account.now) (account_net account.now) (dvp_of account.now.holdings.now)) (length memory.old) }
+    ensures memory_after { memory.new ≡ written result (report_words (account_day account.now) (account_net account.now) (covered (account_day account.now) account.now.deposits.now (account_net account.now)) (dvp_of account.now.holdings.now)) memory.old }
 {
+    let before = account.holdings;
     let mut nets = [0i64; POSITIONS];
-    cover::cover(before, deposits, &mut nets);
+    cover::cover(account, &mut nets);
     let after = Holdings {
         day: before.day,
         nets: &nets,
         dvps: before.dvps,
     };
-    report_accepted(before.nets, &after, memory)
+    let of = CoveredHoldings {
+        nets: before.nets,
+        after: &after,
+    };
+    report_accepted(&of, memory)
 }
 
 // Rows 50, 51 and 40, or the report. Without deposits the nets are those of the amounts, and no table is made.
@@ -48,8 +49,16 @@ pub fn report_covered(
     ensures memory_after { memory.new ≡ written result (report_words (day_of before.now) (net_of before.now) (covered (day_of before.now) deposits.now (net_of before.now)) (dvp_of before.now)) memory.old }
 {
     if deposits.is_empty() {
-        return report_accepted(before.nets, before, memory);
+        let of = CoveredHoldings {
+            nets: before.nets,
+            after: before,
+        };
+        return report_accepted(&of, memory);
     }
     check_deposits(before.day, deposits)?;
-    report_reduced(before, deposits, memory)
+    let account = Account {
+        holdings: before,
+        deposits,
+    };
+    report_reduced(&account, memory)
 }

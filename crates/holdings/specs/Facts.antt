@@ -1,7 +1,8 @@
 -- What holds of holdings: the day file is an accepted one, the amounts are within their budget, the series of a class are those of its range.
-use Rattle.std.specs.Prelude.{◌<◌}
+use Rattle.std.specs.Prelude.{List, [], ℕ, ℤ, ◌<◌}
 use Rattle.std.proofs.Common.{arith}
-use Rattle.model.proofs.Fewest.{budget_of}
+use Rattle.numbers.specs.Table.{entry}
+use Rattle.model.proofs.Fewest.{Few, budget_of, few_of}
 use Rattle.model.proofs.Records.{Budget}
 use Rattle.classes.specs.Checked.{checked_rows, checked_day}
 use Rattle.classes.specs.Range.{Range, range}
@@ -28,6 +29,17 @@ day_accepted h = checked_day (day_of h) h.day.now.checked
 
 pub budget : (h : Holdings) → Budget (day_of h) (net_of h) (dvp_of h)
 budget h = budget_of (day_of h) (net_of h) (dvp_of h) (checked_rows (day_of h) h.day.now.checked) h.few
+
+-- nets within a budget are few without DVPs: holdings ask nothing more than `Given`
+pub few_given : (d : List ℕ) (nets : List ℤ) → Given d nets → Few d (entry nets) (entry [])
+few_given d nets w =
+    few_of d (entry nets) (entry []) w.day.rows
+    (record {
+      records = w.budget.records;
+      few = w.budget.few;
+      net_limit = w.budget.net_limit;
+      dvp_limit = λ p h. omega arith;
+    })
 
 pub given : (h : Holdings) → Given (day_of h) h.nets.now
 given h = record { day = day_accepted h; dvp = dvp_of h; budget = budget h }

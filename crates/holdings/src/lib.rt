@@ -3,7 +3,8 @@
 
 ghost use Rattle.std.specs.Prelude.{◌<◌};
 ghost use Rattle.numbers.specs.Table.{entry};
-ghost use Rattle.model.specs.DayFile.{class_count};
+ghost use Rattle.model.specs.DayFile.{class_count, series_count};
+ghost use Rattle.model.specs.Limits.{group_count};
 ghost use Rattle.model.proofs.Fewest.{Few};
 
 use classes::day::CheckedDay;
@@ -11,7 +12,7 @@ use positions::Book;
 
 mod reading;
 
-// Tables of nets and of DVPs, by position key, within what 256 records can hold.
+// Tables of nets and of DVPs, by position key, within what 256 records can hold. Two tables: cover writes the nets alone anew.
 #[derive(Drop)]
 pub struct Holdings<'a> {
     pub day: &'a CheckedDay<'a>,
@@ -27,4 +28,28 @@ pub struct ClassHoldings<'a> {
     pub book: Book,
     pub class: usize,
     pub ghost inside: { class < class_count account.now.day.now.words.now },
+}
+
+// The nets before cover, by which a group has a line, and what is held after it, by which a line has its amounts.
+#[derive(Clone, Copy)]
+pub struct CoveredHoldings<'a, 'b> {
+    pub nets: &'a [i64],
+    pub after: &'a Holdings<'b>,
+}
+
+// Those of one product group in one book.
+#[derive(Drop)]
+pub struct GroupHoldings<'a, 'b> {
+    pub account: &'a Holdings<'b>,
+    pub book: Book,
+    pub group: usize,
+    pub ghost inside: { group < group_count },
+}
+
+// Those of one series in one book.
+#[derive(Drop)]
+pub struct SeriesHoldings<'a, 'b> {
+    pub class: &'a ClassHoldings<'b>,
+    pub place: usize,
+    pub ghost inside: { place < series_count class.now.account.now.day.now.words.now },
 }

@@ -1,14 +1,15 @@
 // What is read of holdings.
-ghost use Rattle.std.specs.Prelude.{◌≡◌, ◌*◌, ◌≤◌, ◌<◌};
+ghost use Rattle.std.specs.Prelude.{◌≡◌, ◌≤◌};
 ghost use Rattle.model.specs.DayFile.{series_count};
-ghost use Rattle.model.specs.Netting.{position, places};
+ghost use Rattle.model.specs.Netting.{position};
 ghost use Rattle.positions.specs.Books.{holding_number};
-ghost use Rattle.holdings.specs.Seen.{class_day, class_net, class_dvp, class_book, class_from, class_to};
+ghost use Rattle.holdings.specs.Seen.{class_day, class_from, class_to, series_day, series_net, series_dvp, series_book};
 
-use crate::ClassHoldings;
+use crate::{ClassHoldings, SeriesHoldings};
 use day_file::{Class, Series};
 use positions::{Holding, position_amount};
 use std::ops::Range;
+use worth::SeriesNet;
 
 impl ClassHoldings<'_> {
     // The class in the day file.
@@ -18,35 +19,47 @@ impl ClassHoldings<'_> {
         self.account.day.class(self.class)
     }
 
-    // Its series.
+    // The places of its series. Loops write `start..end`: of a range that is written out alone an invariant can name the place.
     pub fn series(&self) -> Range<usize>
         ensures range { (result.start ≡ class_from self.now) × (result.end ≡ class_to self.now) }
         ensures inside { (result.start ≤ result.end) × (result.end ≤ series_count (class_day self.now)) }
     {
         self.account.day.series_of(self.class)
     }
+}
 
-    // A series of the day file.
-    pub fn series_at(&self, s: usize) -> Series<'_>
-        requires { s < series_count (class_day self.now) }
-        ensures { (result.day.now ≡ class_day self.now) × (result.place ≡ s) }
+impl SeriesHoldings<'_, '_> {
+    // The series in the day file.
+    pub fn series(&self) -> Series<'_>
+        ensures { (result.day.now ≡ series_day self.now) × (result.place ≡ self.now.place) }
     {
-        self.account.day.series(s)
+        self.class.account.day.series(self.place)
     }
 
-    // The net of a position of series s.
-    pub fn net(&self, holding: Holding, s: usize) -> i64
-        requires { s < 2 * places }
-        ensures { result ≡ class_net self.now (position (class_book self.now) (holding_number holding) s) }
+    // The net of a position.
+    pub fn net(&self, holding: Holding) -> i64
+        ensures { result ≡ series_net self.now (position (series_book self.now) (holding_number holding) self.now.place) }
     {
-        position_amount(self.account.nets, self.book, holding, s)
+        let class = self.class;
+        position_amount(class.account.nets, class.book, holding, self.place)
     }
 
     // Its DVP.
-    pub fn dvp(&self, holding: Holding, s: usize) -> i64
-        requires { s < 2 * places }
-        ensures { result ≡ class_dvp self.now (position (class_book self.now) (holding_number holding) s) }
+    pub fn dvp(&self, holding: Holding) -> i64
+        ensures { result ≡ series_dvp self.now (position (series_book self.now) (holding_number holding) self.now.place) }
     {
-        position_amount(self.account.dvps, self.book, holding, s)
+        let class = self.class;
+        position_amount(class.account.dvps, class.book, holding, self.place)
+    }
+
+    // The net of a position, with the series.
+    pub fn position(&self, holding: Holding) -> SeriesNet<'_>
+        ensures series { (result.series.day.now ≡ series_day self.now) × (result.series.place ≡ self.now.place) }
+        ensures net { result.net ≡ series_net self.now (position (series_book self.now) (holding_number holding) self.now.place) }
+    {
+        SeriesNet {
+            series: self.series(),
+            net: self.net(holding),
+        }
     }
 }

@@ -1,15 +1,13 @@
 // What a group has before the larger of additional and minimum is taken: its classes' amounts added.
 ghost use Rattle.std.specs.Prelude.{◌≡◌, ◌+◌, ◌<◌};
 ghost use Rattle.model.specs.DayFile.{class_count};
-ghost use Rattle.model.specs.Limits.{group_count};
-ghost use Rattle.positions.specs.Books.{book_number};
-ghost use Rattle.holdings.specs.Seen.{day_of, net_of, dvp_of, class_day, class_net, class_dvp, class_book};
+ghost use Rattle.holdings.specs.Seen.{group_day, group_net, group_dvp, group_book, class_day, class_net, class_dvp, class_book};
 ghost use Rattle.margin.specs.Groups.{Small, no_amounts, added, class_amounts, amounts_below};
 
 use accumulator::Points;
-use holdings::{ClassHoldings, Holdings};
+use holdings::{ClassHoldings, GroupHoldings};
 use points::class_points;
-use positions::Book;
+use spread::quantity::{ClassSpread, spread_quantity};
 
 #[derive(Drop)]
 pub struct Amounts {
@@ -24,12 +22,12 @@ pub struct Amounts {
 fn class_amounts(class: &ClassHoldings) -> Amounts
     ensures { result ≡ class_amounts (class_day class.now) (class_net class.now) (class_dvp class.now) (class_book class.now) class.now.class }
 {
-    let sides = spread::sides::total_sides(class);
-    let quantity = amounts::smaller(sides.long, sides.short);
-    let whole = class_points::class_points(class, quantity);
+    let quantity = spread_quantity(class);
+    let of = ClassSpread { class, quantity };
+    let whole = class_points::class_points(&of);
     let after = additional::offset(whole, class.class().offset());
     Amounts {
-        spread: spread::amount::spread(class, quantity),
+        spread: spread::amount::spread(&of),
         mtm: mtm::mtm(class),
         premium: premium::premium(class),
         minimum: minimum::minimum(class),
@@ -61,39 +59,39 @@ impl Amounts {
         let others = more.points;
         let sum = additional::plus(points, others);
         Amounts {
-            spread: amounts::add(self.spread, more.spread),
-            mtm: amounts::add(self.mtm, more.mtm),
-            premium: amounts::add(self.premium, more.premium),
-            minimum: amounts::add(self.minimum, more.minimum),
+            spread: self.spread + more.spread,
+            mtm: self.mtm + more.mtm,
+            premium: self.premium + more.premium,
+            minimum: self.minimum + more.minimum,
             points: sum,
         }
     }
 }
 
-// The amounts of the classes of group g below c, with class c if it is of the group.
-fn add_class(sum: Amounts, account: &Holdings, book: Book, g: usize, c: usize) -> Amounts
-    requires g_bound { (g < group_count) × (c < class_count (day_of account.now)) }
-    requires sum_value { sum ≡ amounts_below (day_of account.now) (net_of account.now) (dvp_of account.now) (book_number book) g c }
-    ensures { result ≡ amounts_below (day_of account.now) (net_of account.now) (dvp_of account.now) (book_number book) g (c + 1) }
+// The amounts of the group's classes below c, with class c if it is of the group.
+fn add_class(sum: Amounts, held: &GroupHoldings, c: usize) -> Amounts
+    requires c_bound { c < class_count (group_day held.now) }
+    requires sum_value { sum ≡ amounts_below (group_day held.now) (group_net held.now) (group_dvp held.now) (group_book held.now) held.now.group c }
+    ensures { result ≡ amounts_below (group_day held.now) (group_net held.now) (group_dvp held.now) (group_book held.now) held.now.group (c + 1) }
 {
-    if account.day.class(c).group() != g {
+    let account = held.account;
+    if account.day.class(c).group() != held.group {
         return sum;
     }
     sum.add(class_amounts(&ClassHoldings {
         account,
-        book,
+        book: held.book,
         class: c,
     }))
 }
 
-// The amounts of group g.
-pub fn group_amounts(account: &Holdings, book: Book, g: usize) -> Amounts
-    requires { g < group_count }
-    ensures { result ≡ amounts_below (day_of account.now) (net_of account.now) (dvp_of account.now) (book_number book) g (class_count (day_of account.now)) }
+// The amounts of a group.
+pub fn group_amounts(held: &GroupHoldings) -> Amounts
+    ensures { result ≡ amounts_below (group_day held.now) (group_net held.now) (group_dvp held.now) (group_book held.now) held.now.group (class_count (group_day held.now)) }
 {
     let mut sum = Amounts::new();
-    for c in 0..account.day.class_count() {
-        sum = add_class(sum, account, book, g, c);
+    for c in 0..held.account.day.class_count() {
+        sum = add_class(sum, held, c);
     }
     sum
 }

@@ -1,15 +1,13 @@
 // Steps 7 and 8: the line of a group in a book.
-ghost use Rattle.std.specs.Prelude.{◌≡◌, [], ◌∷◌, ◌≤◌, ◌<◌, pos, nat_abs, ◌+ℤ◌, get_or};
+ghost use Rattle.std.specs.Prelude.{◌≡◌, [], ◌∷◌, ◌≤◌, pos, nat_abs, ◌+ℤ◌, get_or};
 ghost use Rattle.numbers.specs.Extremes.{max_z, largest};
 ghost use Rattle.model.specs.Steps.Margin.{line_amounts};
-ghost use Rattle.model.specs.Limits.{mtm_limit, spread_limit, worth_limit, point_count, group_count};
-ghost use Rattle.positions.specs.Books.{book_number};
-ghost use Rattle.holdings.specs.Seen.{day_of, net_of, dvp_of};
+ghost use Rattle.model.specs.Limits.{mtm_limit, spread_limit, worth_limit, point_count};
+ghost use Rattle.holdings.specs.Seen.{group_day, group_net, group_dvp, group_book};
 
 use crate::group;
 use accumulator::Points;
-use holdings::Holdings;
-use positions::Book;
+use holdings::GroupHoldings;
 
 #[derive(Drop)]
 pub struct Line {
@@ -25,7 +23,7 @@ pub struct Line {
 fn additional_requirement(points: Points, minimum: i64) -> i64
     ensures { result ≡ max_z (largest point_count (λ k. get_or points.at k (pos 0))) minimum }
 {
-    amounts::larger(additional::largest(points), minimum)
+    additional::largest(points).max(minimum)
 }
 
 // Spread + MTM + premium + additional requirement.
@@ -33,18 +31,14 @@ fn group_sum(spread: i64, mtm: i64, premium: i64, requirement: i64) -> i64
     requires { (nat_abs spread ≤ spread_limit) × (nat_abs mtm ≤ mtm_limit) × (nat_abs premium ≤ worth_limit) × (nat_abs requirement ≤ worth_limit) }
     ensures { result ≡ spread +ℤ mtm +ℤ premium +ℤ requirement }
 {
-    amounts::add(
-        amounts::add(amounts::add(spread, mtm), premium),
-        requirement,
-    )
+    spread + mtm + premium + requirement
 }
 
-// The line of group g: margin is the group sum if positive, residual credit its negative if negative.
-pub fn group_line(account: &Holdings, book: Book, g: usize) -> Line
-    requires { g < group_count }
-    ensures { (result.spread ∷ result.mtm ∷ result.premium ∷ result.requirement ∷ result.margin ∷ result.residual ∷ []) ≡ line_amounts (day_of account.now) (net_of account.now) (dvp_of account.now) (book_number book) g }
+// The line of a group: margin is the group sum if positive, residual credit its negative if negative.
+pub fn group_line(held: &GroupHoldings) -> Line
+    ensures { (result.spread ∷ result.mtm ∷ result.premium ∷ result.requirement ∷ result.margin ∷ result.residual ∷ []) ≡ line_amounts (group_day held.now) (group_net held.now) (group_dvp held.now) (group_book held.now) held.now.group }
 {
-    let sums = group::group_amounts(account, book, g);
+    let sums = group::group_amounts(held);
     let points = sums.points;
     let requirement = additional_requirement(points, sums.minimum);
     let total = group_sum(sums.spread, sums.mtm, sums.premium, requirement);
@@ -53,7 +47,7 @@ pub fn group_line(account: &Holdings, book: Book, g: usize) -> Line
         mtm: sums.mtm,
         premium: sums.premium,
         requirement: requirement,
-        margin: amounts::larger(total, 0),
-        residual: amounts::larger(amounts::sub(0, total), 0),
+        margin: total.max(0),
+        residual: (-total).max(0),
     }
 }

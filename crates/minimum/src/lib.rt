@@ -11,7 +11,7 @@ ghost use Rattle.holdings.specs.Seen.{class_day, class_net, class_book};
 ghost use Rattle.minimum.specs.Types.{type_slots};
 
 use day_file::Class;
-use holdings::ClassHoldings;
+use holdings::{ClassHoldings, SeriesHoldings};
 use positions::Holding;
 use series_types::SeriesType;
 
@@ -25,9 +25,9 @@ fn type_nets(class: &ClassHoldings) -> [i64; TYPE_SLOTS]
     let mut sums = [0i64; TYPE_SLOTS];
     let series = class.series();
     for s in series.start..series.end {
-        let t = class.series_at(s).type_number();
-        let was = sums[t];
-        sums[t] = amounts::add(was, class.net(Holding::Open, s));
+        let held = SeriesHoldings { class, place: s };
+        let t = held.series().type_number() as usize;
+        sums[t] += held.net(Holding::Open);
     }
     sums
 }
@@ -50,7 +50,7 @@ fn type_minimum(net: i64, rate: u32) -> i64
     requires { (nat_abs net ≤ contracts_limit) × (rate ≤ price_limit) }
     ensures { result ≡ abs_z net *ℤ pos rate }
 {
-    amounts::mul(amounts::absolute(net), amounts::signed(rate))
+    net.abs() * i64::from(rate)
 }
 
 // Over the types.
@@ -61,8 +61,8 @@ pub fn minimum(class: &ClassHoldings) -> i64
     let of = class.class();
     let mut sum = 0;
     for t in SeriesType::ALL {
-        let net = sums[t.number()];
-        sum = amounts::add(sum, type_minimum(net, minimum_rate(&of, t)));
+        let net = sums[t.number() as usize];
+        sum += type_minimum(net, minimum_rate(&of, t));
     }
     sum
 }

@@ -1,36 +1,34 @@
 // Step 3 of a class in a book: mark-to-market of its securities.
 #![tactic(auto)]
 
-ghost use Rattle.std.specs.Prelude.{◌≡◌, cond, ◌<◌, pos};
-ghost use Rattle.model.specs.DayFile.{series_count, series_type, is_security};
+ghost use Rattle.std.specs.Prelude.{◌≡◌, cond, pos};
+ghost use Rattle.model.specs.DayFile.{series_type, is_security};
 ghost use Rattle.model.specs.Steps.Mtm.{mtm_of, mtm as mtm_sum};
-ghost use Rattle.holdings.specs.Seen.{class_day, class_net, class_dvp, class_book};
+ghost use Rattle.holdings.specs.Seen.{class_day, class_net, class_dvp, class_book, series_day, series_net, series_dvp, series_book};
 
-use holdings::ClassHoldings;
+use holdings::{ClassHoldings, SeriesHoldings};
 use positions::Holding;
 
-// Of series s, if it is a security: net × multiplier × closing price − DVP. A net of 0 keeps its DVP.
-fn series_mtm(class: &ClassHoldings, s: usize) -> i64
-    requires { s < series_count (class_day class.now) }
-    ensures { result ≡ cond (is_security (series_type (class_day class.now) s)) (mtm_of (class_day class.now) (class_net class.now) (class_dvp class.now) (class_book class.now) s) (pos 0) }
+// Of a series, if it is a security: net × multiplier × closing price − DVP. A net of 0 keeps its DVP.
+fn series_mtm(held: &SeriesHoldings) -> i64
+    ensures { result ≡ cond (is_security (series_type (series_day held.now) held.now.place)) (mtm_of (series_day held.now) (series_net held.now) (series_dvp held.now) (series_book held.now) held.now.place) (pos 0) }
 {
-    let series = class.series_at(s);
+    let series = held.series();
     if !series.is_security() {
         return 0;
     }
-    let price = amounts::signed(series.closing());
-    let value = worth::worth(&series, class.net(Holding::Open, s), price);
-    amounts::sub(value, class.dvp(Holding::Open, s))
+    let price = i64::from(series.closing());
+    held.position(Holding::Open).worth(price) - held.dvp(Holding::Open)
 }
 
-// Of a class.
+// Of a class. A loop of its own: what bounds its sum is another law than premium's.
 pub fn mtm(class: &ClassHoldings) -> i64
     ensures { result ≡ mtm_sum (class_day class.now) (class_net class.now) (class_dvp class.now) (class_book class.now) class.now.class }
 {
     let mut sum = 0;
     let series = class.series();
     for s in series.start..series.end {
-        sum = amounts::add(sum, series_mtm(class, s));
+        sum += series_mtm(&SeriesHoldings { class, place: s });
     }
     sum
 }

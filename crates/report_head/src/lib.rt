@@ -9,24 +9,32 @@ ghost use Rattle.model.specs.Words.{word};
 
 use words::Kind;
 
-// The number of ones in the two maps.
-pub fn line_count(ordinary: u32, fail: u32) -> u32
-    requires { (ordinary < 2 ^ group_count) × (fail < 2 ^ group_count) }
-    ensures { (result ≡ ones ordinary + ones fail) × (result ≤ most_lines) }
-{
-    ordinary.count_ones() + fail.count_ones()
+// The maps of the two books: a bit for each group.
+#[derive(Clone, Copy)]
+pub struct Maps {
+    pub ordinary: u32,
+    pub fail: u32,
+    pub ghost small: { (ordinary < 2 ^ group_count) × (fail < 2 ^ group_count) },
+}
+
+impl Maps {
+    // The number of ones in both.
+    pub fn line_count(self) -> u32
+        ensures { (result ≡ ones self.ordinary + ones self.fail) × (result ≤ most_lines) }
+    {
+        self.ordinary.count_ones() + self.fail.count_ones()
+    }
 }
 
 // Header and maps.
-pub fn write_maps(memory: &mut [u32], count: u32, ordinary: u32, fail: u32)
-    requires in_bounds { 3 ≤ length memory.old }
-    requires count_bound { (count < 2 ^ 29) × (ordinary < 2 ^ group_count) × (fail < 2 ^ group_count) }
-    ensures { memory.new ≡ put 0 (word 1 count ∷ word 4 ordinary ∷ word 4 fail ∷ []) memory.old }
+pub fn write_maps(memory: &mut [u32], count: u32, maps: Maps)
+    requires { (3 ≤ length memory.old) × (count < 2 ^ 29) }
+    ensures { memory.new ≡ put 0 (word 1 count ∷ word 4 maps.ordinary ∷ word 4 maps.fail ∷ []) memory.old }
 {
     let head = [
         words::word(Kind::Header, count),
-        words::word(Kind::Count, ordinary),
-        words::word(Kind::Count, fail),
+        words::word(Kind::Count, maps.ordinary),
+        words::word(Kind::Count, maps.fail),
     ];
     memory[..3].copy_from_slice(&head);
 }

@@ -132,7 +132,7 @@ module _ (q before size : ℤ) (hq : nat_abs q ≤ contracts_limit) (hb : nat_ab
   pub rest_size : nat_abs (q -ℤ before) ≤ 2 * contracts_limit
   rest_size = omega (arith, nat_abs-- q before, hq, hb)
 
-  taken_size : nat_abs (min_z size (max_z (q -ℤ before) (pos 0))) ≤ 2 * contracts_limit
+  pub taken_size : nat_abs (min_z size (max_z (q -ℤ before) (pos 0))) ≤ 2 * contracts_limit
   taken_size = min_abs size (max_z (q -ℤ before) (pos 0)) (2 * contracts_limit) (omega arith) (omega (arith, max-zero_abs (q -ℤ before), rest_size))
 
   pub left-size : nat_abs (left_over q before size) ≤ 3 * contracts_limit

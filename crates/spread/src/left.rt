@@ -7,13 +7,13 @@ ghost use Rattle.spread.specs.Sides.{non_spread_of};
 use crate::sides;
 use crate::sides::Sides;
 
-// What is left of one side of a series where the earlier series have taken `before` of the spread quantity.
+// What is left of one side of a series behind earlier ones whose contracts on this side are `before`.
 fn left_over(quantity: i64, before: i64, size: i64) -> i64
     requires { (nat_abs quantity ≤ contracts_limit) × (nat_abs before ≤ contracts_limit) × (nat_abs size ≤ contracts_limit) }
     ensures { result ≡ left_over quantity before size }
 {
-    let rest = amounts::larger(amounts::sub(quantity, before), 0);
-    amounts::sub(size, amounts::smaller(size, rest))
+    let rest = (quantity - before).max(0);
+    size - size.min(rest)
 }
 
 // The non-spread net of a future: what is left of its short side − what is left of its long side.
@@ -23,5 +23,5 @@ pub fn non_spread(quantity: i64, before: Sides, net: i64) -> i64
 {
     let short = left_over(quantity, before.short, sides::short_side(net));
     let long = left_over(quantity, before.long, sides::long_side(net));
-    amounts::sub(short, long)
+    short - long
 }

@@ -3,5 +3,6 @@
 
 pub mod amount;
 pub mod left;
+pub mod quantity;
 pub mod sides;
 mod spot;

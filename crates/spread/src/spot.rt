@@ -1,22 +1,20 @@
 // The spot: the future held with the earliest expiry.
-ghost use Rattle.std.specs.Prelude.{◌≡◌, ◌<◌};
-ghost use Rattle.model.specs.DayFile.{series_count};
+ghost use Rattle.std.specs.Prelude.{◌≡◌};
 ghost use Rattle.model.specs.Steps.Spread.{spot_size};
-ghost use Rattle.holdings.specs.Seen.{class_day, class_net, class_book};
+ghost use Rattle.holdings.specs.Seen.{class_day, class_net, class_book, series_day, series_net, series_book};
 ghost use Rattle.spread.specs.Sides.{held_here};
 
-use holdings::ClassHoldings;
+use holdings::{ClassHoldings, SeriesHoldings};
 use positions::Holding;
 
-// Series s of the class is a future with a non-zero net.
-fn held_future(class: &ClassHoldings, s: usize) -> bool
-    requires { s < series_count (class_day class.now) }
-    ensures { result ≡ held_here (class_day class.now) (class_net class.now) (class_book class.now) s }
+// A future with a non-zero net.
+fn held_future(held: &SeriesHoldings) -> bool
+    ensures { result ≡ held_here (series_day held.now) (series_net held.now) (series_book held.now) held.now.place }
 {
-    if !class.series_at(s).is_future() {
+    if !held.series().is_future() {
         return false;
     }
-    amounts::not_zero(class.net(Holding::Open, s))
+    held.net(Holding::Open) != 0
 }
 
 // The absolute net of the spot: the first future held, which has the earliest expiry.
@@ -25,8 +23,9 @@ pub fn spot_size(class: &ClassHoldings) -> i64
 {
     let series = class.series();
     for s in series.start..series.end {
-        if held_future(class, s) {
-            return amounts::absolute(class.net(Holding::Open, s));
+        let held = SeriesHoldings { class, place: s };
+        if held_future(&held) {
+            return held.net(Holding::Open).abs();
         }
     }
     0

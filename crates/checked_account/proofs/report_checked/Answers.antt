@@ -13,21 +13,19 @@ use Rattle.net_check.specs.Sizes.{placed}
 use Rattle.netting.specs.Limits.{limited}
 use Rattle.numbers.specs.Table.{entry, replicate_tabulate}
 
-pub net_positions-requires : goal.net_positions-requires
-net_positions-requires c =
+pub invariant_of-limited : goal.invariant_of-limited
+invariant_of-limited c =
     let d = c.args.day.now.words.now in
-    record {
-      limited = limited d c.args.batch.now (batch_checked d c.args.batch.now c.requires);
-      nets_value = replicate_tabulate position_count (pos 0);
-      dvps_value = replicate_tabulate position_count (pos 0);
-    }
+    record { limited = limited d c.args.batch.now (batch_checked d c.args.batch.now c.requires) }
+
+pub net_positions-requires : goal.net_positions-requires
+net_positions-requires c = record { nets_value = replicate_tabulate position_count (pos 0); dvps_value = replicate_tabulate position_count (pos 0) }
 
 pub check_nets-requires : goal.check_nets-requires
 check_nets-requires c =
     let d = c.args.day.now.words.now in
     let b = c.args.batch.now in
-    let checks = batch_checked d b c.requires in
-    record { limited = limited d b checks; placed = placed d b (checked_rows d c.args.day.now.checked) checks; nets_value = c.net_positions.ensures.nets_after }
+    record { placed = placed d b (checked_rows d c.args.day.now.checked) (batch_checked d b c.requires); nets_value = c.net_positions.ensures.nets_after }
 
 pub returns-in_err-check_nets : goal.returns-in_err-check_nets
 returns-in_err-check_nets c =

@@ -10,14 +10,14 @@ use Rattle.numbers.specs.Filling.{tabulate-get_or}
 
 pub loop-c-init : goal.loop-c-init
 loop-c-init c =
-    let h = c.args.before.now in
+    let h = c.args.account.now.holdings.now in
     c.copy_from_slice.ensures.after ∙ tabulate-get_or h.nets.now position_count (pos 0) c.requires.nets_len
-    ∙ first_class (day_of h) c.args.deposits.now (net_of h) (day_accepted h).rows
+    ∙ first_class (day_of h) c.args.account.now.deposits.now (net_of h) (day_accepted h).rows
 
 pub returns : goal.returns
 returns c =
-    let h = c.args.before.now in
+    let h = c.args.account.now.holdings.now in
     let d = day_of h in
     let e : c.loop-c.c ≡ class_count d = omega arith in
-    c.loop-c.invariant ∙ ap (λ (k : _). covered_to d c.args.deposits.now (net_of h) (start_of d k)) e
-    ∙ last_class d c.args.deposits.now (net_of h) (day_accepted h).rows (omega (arith, (day_accepted h).series))
+    c.loop-c.invariant ∙ ap (λ (k : _). covered_to d c.args.account.now.deposits.now (net_of h) (start_of d k)) e
+    ∙ last_class d c.args.account.now.deposits.now (net_of h) (day_accepted h).rows (omega (arith, (day_accepted h).series))

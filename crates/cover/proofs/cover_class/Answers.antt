@@ -14,36 +14,36 @@ use Rattle.numbers.specs.Filling.{filled_more}
 
 pub returns-then-shares-eq0 : goal.returns-then-shares-eq0
 returns-then-shares-eq0 c =
-    let h = c.args.order.now.before.now in
+    let h = c.args.order.now.account.now.holdings.now in
     let d = day_of h in
     c.requires.after_value
-    ∙ class_kept d c.args.deposits.now (net_of h) c.args.c (start_of d c.args.c) (start_of d (c.args.c + 1)) (range d (checked_rows d h.day.now.checked) c.args.c c.requires.c_bound)
+    ∙ class_kept d c.args.order.now.account.now.deposits.now (net_of h) c.args.c (start_of d c.args.c) (start_of d (c.args.c + 1)) (range d (checked_rows d h.day.now.checked) c.args.c c.requires.c_bound)
     (sym c.deposited-shares.ensures ∙ c.if-shares-eq0.true)
 
 pub loop-s-init : goal.loop-s-init
 loop-s-init c =
-    let h = c.args.order.now.before.now in
-    c.requires.after_value ∙ ap (covered_to (day_of h) c.args.deposits.now (net_of h)) (sym c.series_of-series.ensures.range.0)
+    let h = c.args.order.now.account.now.holdings.now in
+    c.requires.after_value ∙ ap (covered_to (day_of h) c.args.order.now.account.now.deposits.now (net_of h)) (sym c.series_of-series.ensures.range.0)
 
 pub series_covered-requires : goal.series_covered-requires
 series_covered-requires c =
-    let h = c.args.order.now.before.now in
+    let h = c.args.order.now.account.now.holdings.now in
     let d = day_of h in
     let r = range d (checked_rows d h.day.now.checked) c.args.c c.requires.c_bound in
     record { class_value = (c.requires.c_bound, r.here c.loop-s.s (omega arith) (omega arith)); s_bound = omega arith }
 
 pub bounds-after-s : goal.bounds-after-s
 bounds-after-s c =
-    let h = c.args.order.now.before.now in
-    let long : length c.loop-s.after ≡ position_count = ap length c.loop-s.invariant ∙ covered-length (day_of h) c.args.deposits.now (net_of h) c.loop-s.s in
+    let h = c.args.order.now.account.now.holdings.now in
+    let long : length c.loop-s.after ≡ position_count = ap length c.loop-s.invariant ∙ covered-length (day_of h) c.args.order.now.account.now.deposits.now (net_of h) c.loop-s.s in
     omega (arith, long, (day_accepted h).series)
 
 pub loop-s-preserved : goal.loop-s-preserved
 loop-s-preserved c =
-    let h = c.args.order.now.before.now in
+    let h = c.args.order.now.account.now.holdings.now in
     let d = day_of h in
     let n = net_of h in
-    let x = c.args.deposits.now in
+    let x = c.args.order.now.account.now.deposits.now in
     let r = range d (checked_rows d h.day.now.checked) c.args.c c.requires.c_bound in
     let s = c.loop-s.s in
     let k = c.deposited-shares.result in
@@ -54,7 +54,7 @@ loop-s-preserved c =
 
 pub returns : goal.returns
 returns c =
-    let h = c.args.order.now.before.now in
+    let h = c.args.order.now.account.now.holdings.now in
     let d = day_of h in
     let e : c.loop-s.s ≡ start_of d (c.args.c + 1) = omega arith in
-    c.loop-s.invariant ∙ ap (covered_to d c.args.deposits.now (net_of h)) e
+    c.loop-s.invariant ∙ ap (covered_to d c.args.order.now.account.now.deposits.now (net_of h)) e

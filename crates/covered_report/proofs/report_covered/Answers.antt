@@ -1,7 +1,6 @@
-use Rattle.std.specs.Prelude.{Ok}
+use Rattle.std.specs.Prelude.{is_ok}
 use Rattle.std.proofs.Common.{◌≡◌, ◌∙◌, sym, ap, length, ℕ, List, eqb-true}
 use Rattle.holdings.specs.Seen.{day_of, net_of, dvp_of}
-use Rattle.model.proofs.Accepted.{deposit_checked}
 use Rattle.model.specs.Calls.{room_answer, written}
 use Rattle.model.specs.DepositChecks.{deposit_check}
 use Rattle.model.specs.Report.{words_needed}
@@ -20,8 +19,5 @@ returns-then-is_empty c =
           ∙ ap (λ (w : List ℕ). written c.report_accepted.result w c.args.memory.now) (none_reported_lem (day_of h) x e (net_of h) (dvp_of h));
     }
 
-pub report_reduced-requires : goal.report_reduced-requires
-report_reduced-requires c =
-    let d = day_of c.args.before.now in
-    let passed : deposit_check d c.args.deposits.now ≡ Ok tt = sym c.check_deposits.ensures ∙ c.in_ok-check_deposits.was in
-    record { deposit_rows = deposit_checked d c.args.deposits.now passed; nets_len = c.requires.nets_len }
+pub invariant_of-account : goal.invariant_of-account
+invariant_of-account c = record { checked = ap is_ok (sym c.check_deposits.ensures ∙ c.in_ok-check_deposits.was) }

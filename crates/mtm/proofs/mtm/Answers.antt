@@ -3,7 +3,7 @@ use Rattle.holdings.specs.Facts.{class_given, class_range, class_budget, book_be
 use Rattle.std.proofs.Common.{◌+◌, ◌≤◌, ◌+ℤ◌, ◌∙◌, sym, ap, arith}
 use Rattle.model.specs.DayFile.{series_count}
 use Rattle.model.proofs.Bounds.{mtm_so_far}
-use Rattle.numbers.specs.Abs.{fits_by, told}
+use Rattle.numbers.specs.Abs.{back, fits_by, told}
 use Rattle.mtm.specs.Laws.{mtm_start, mtm_turn, mtm_end, mtm_to}
 use Rattle.mtm.proofs.mtm.Goals as goal
 
@@ -12,19 +12,21 @@ loop-s-init c =
     let h = c.args.class.now in
     mtm_start (class_day h) (class_net h) (class_dvp h) (class_book h) h.class (class_from h) (class_to h) (class_range h) ∙ ap (mtm_to (class_day h) (class_net h) (class_dvp h) (class_book h) h.class) (sym c.series-series.ensures.range.0)
 
-pub add-sum-requires : goal.add-sum-requires
-add-sum-requires c =
+pub overflow_add-sum : goal.overflow_add-sum
+overflow_add-sum c =
     let h = c.args.class.now in
     let w = class_given h in
-    let next = (λ i. c.loop-s.invariant i +ℤ told c.series_mtm.type_inv c.series_mtm.ensures i) ∙ mtm_turn (class_day h) (class_net h) (class_dvp h) (class_book h) h.class (class_from h) (class_to h) (class_range h) c.loop-s.s (omega arith) (omega arith) in
+    let next = (λ i. c.loop-s.invariant i +ℤ told c.series_mtm-sum.type_inv c.series_mtm-sum.ensures i) ∙ mtm_turn (class_day h) (class_net h) (class_dvp h) (class_book h) h.class (class_from h) (class_to h) (class_range h) c.loop-s.s (omega arith) (omega arith) in
     let m : c.loop-s.s + 1 ≤ series_count (class_day h) = omega arith in
     fits_by next (omega (arith, mtm_so_far (class_day h) (class_net h) (class_dvp h) w.day.rows (class_budget h) (class_book h) h.class (c.loop-s.s + 1) (book_below h.book) (class_range h).class m))
 
 pub loop-s-preserved : goal.loop-s-preserved
 loop-s-preserved c =
     let h = c.args.class.now in
-    let next = (λ i. c.loop-s.invariant i +ℤ told c.series_mtm.type_inv c.series_mtm.ensures i) ∙ mtm_turn (class_day h) (class_net h) (class_dvp h) (class_book h) h.class (class_from h) (class_to h) (class_range h) c.loop-s.s (omega arith) (omega arith) in
-    told c.add-sum.type_inv (c.add-sum.ensures ∙ next)
+    let w = class_given h in
+    let next = (λ i. c.loop-s.invariant i +ℤ told c.series_mtm-sum.type_inv c.series_mtm-sum.ensures i) ∙ mtm_turn (class_day h) (class_net h) (class_dvp h) (class_book h) h.class (class_from h) (class_to h) (class_range h) c.loop-s.s (omega arith) (omega arith) in
+    let m : c.loop-s.s + 1 ≤ series_count (class_day h) = omega arith in
+    back next (omega (arith, mtm_so_far (class_day h) (class_net h) (class_dvp h) w.day.rows (class_budget h) (class_book h) h.class (c.loop-s.s + 1) (book_below h.book) (class_range h).class m))
 
 pub returns : goal.returns
 returns c =

@@ -1,45 +1,40 @@
-use Rattle.holdings.specs.Seen.{class_day, class_net, class_dvp, class_book}
+use Rattle.holdings.specs.Seen.{series_day, series_net, series_dvp, series_book}
 use Rattle.holdings.specs.Facts.{class_given, class_budget, book_below}
-use Rattle.std.proofs.Common.{◌≡◌, pos, ◌-ℤ◌, ◌∙◌, sym, ap, arith}
-use Rattle.classes.specs.Sizes.{contracts_size}
+use Rattle.std.proofs.Common.{◌≡◌, pos, ◌-ℤ◌, ◌∙◌, sym, ◌<◌, ◌^◌, nat_abs}
 use Rattle.model.proofs.Limits.{closing_limit}
-use Rattle.model.specs.DayFile.{closing, multiplier, series_type, is_security}
+use Rattle.model.specs.DayFile.{series_type, is_security}
 use Rattle.model.specs.Steps.Classes.{worth}
 use Rattle.model.specs.Steps.Mtm.{mtm_of}
 use Rattle.mtm.specs.Laws.{mtm_fits}
-use Rattle.numbers.specs.Abs.{fits_by, told}
+use Rattle.numbers.specs.Abs.{back, fits_by, told}
+use Rattle.numbers.specs.Machine.{i64_of}
 use Rattle.numbers.specs.Tests.{cond_on}
+use Rattle.worth.specs.Closing.{closing_price}
 use Rattle.mtm.proofs.series_mtm.Goals as goal
+use Rattle.mtm.proofs.series_mtm.Goals.{After-dvp}
 
-pub worth-value-requires : goal.worth-value-requires
-worth-value-requires c =
-    let h = c.args.class.now in
-    let s = c.args.s in
-    let e = c.series_at-series.ensures in
-    let w = class_given h in
-    let net = told c.net.type_inv c.net.ensures in
-    let price = told c.signed-price.type_inv (c.signed-price.ensures ∙ ap pos (c.closing.ensures ∙ (λ i. closing (e.0 i) (e.1 i)))) in
-    let size : multiplier c.series_at-series.result.day.now c.series_at-series.result.place ≡ multiplier (class_day h) s = λ i. multiplier (e.0 i) (e.1 i) in
-    (rw (net, size) (contracts_size (class_day h) h.account.now.nets.now w (class_book h) 0 s (book_below h.book) (omega arith) c.requires), rw price (closing_limit (class_day h) w.day.rows s c.requires))
+-- what the code takes from the other, and that it fits
+value : (c : After-dvp) → i64_of c.worth.result -ℤ i64_of c.dvp.result ≡ mtm_of (series_day c.args.held.now) (series_net c.args.held.now) (series_dvp c.args.held.now) (series_book c.args.held.now) c.args.held.now.place
+value c =
+    let p = c.position.ensures in
+    λ i. told c.worth.type_inv (c.worth.ensures ∙ (λ j. worth (p.series.0 j) (p.series.1 j) (p.net j) (told c.from-price.type_inv (closing_price c.from-price.ensures c.closing.ensures c.series-series.ensures) j))) i -ℤ told c.dvp.type_inv c.dvp.ensures i
 
-pub sub-requires : goal.sub-requires
-sub-requires c =
-    let h = c.args.class.now in
-    let e = c.series_at-series.ensures in
-    let net = told c.net.type_inv c.net.ensures in
-    let price = told c.signed-price.type_inv (c.signed-price.ensures ∙ ap pos (c.closing.ensures ∙ (λ i. closing (e.0 i) (e.1 i)))) in
-    let value = told c.worth-value.type_inv (c.worth-value.ensures ∙ (λ i. worth (e.0 i) (e.1 i) (net i) (price i))) in
-    let dvp = told c.dvp.type_inv c.dvp.ensures in
-    fits_by (λ i. value i -ℤ dvp i) (mtm_fits (class_day h) h.account.now.nets.now (class_given h) (class_book h) c.args.s (book_below h.book) c.requires (class_dvp h) (class_budget h))
+fits : (c : After-dvp) → nat_abs (mtm_of (series_day c.args.held.now) (series_net c.args.held.now) (series_dvp c.args.held.now) (series_book c.args.held.now) c.args.held.now.place) < 2 ^ 63
+fits c =
+    let h = c.args.held.now.class.now in
+    mtm_fits (series_day c.args.held.now) h.account.now.nets.now (class_given h) (series_book c.args.held.now) c.args.held.now.place (book_below h.book) c.args.held.now.inside (series_dvp c.args.held.now) (class_budget h)
+
+pub worth-requires : goal.worth-requires
+worth-requires c =
+    let h = c.args.held.now.class.now in
+    rw (told c.from-price.type_inv (closing_price c.from-price.ensures c.closing.ensures c.series-series.ensures)) (closing_limit (series_day c.args.held.now) (class_given h).day.rows c.args.held.now.place c.args.held.now.inside)
+
+pub overflow_sub-result : goal.overflow_sub-result
+overflow_sub-result c = let d = (goal.at.overflow_sub-result c).After-dvp in fits_by (value d) (fits d)
 
 pub returns : goal.returns
 returns c =
-    let h = c.args.class.now in
-    let e = c.series_at-series.ensures in
-    let net = told c.net.type_inv c.net.ensures in
-    let price = told c.signed-price.type_inv (c.signed-price.ensures ∙ ap pos (c.closing.ensures ∙ (λ i. closing (e.0 i) (e.1 i)))) in
-    let value = told c.worth-value.type_inv (c.worth-value.ensures ∙ (λ i. worth (e.0 i) (e.1 i) (net i) (price i))) in
-    let dvp = told c.dvp.type_inv c.dvp.ensures in
+    let d = (goal.at.returns c).After-dvp in
+    let e = c.series-series.ensures in
     let security = sym (λ i. is_security (series_type (e.0 i) (e.1 i))) ∙ sym c.is_security.ensures ∙ c.if-not-is_security.false in
-    told c.sub.type_inv (c.sub.ensures ∙ (λ i. value i -ℤ dvp i))
-    ∙ cond_on _ (mtm_of (class_day h) (class_net h) (class_dvp h) (class_book h) c.args.s) (pos 0) security
+    back (value d) (fits d) ∙ cond_on _ _ (pos 0) security

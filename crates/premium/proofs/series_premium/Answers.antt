@@ -1,60 +1,49 @@
-use Rattle.holdings.specs.Seen.{class_day, class_net, class_book}
+use Rattle.holdings.specs.Seen.{series_day, series_net, series_book}
 use Rattle.holdings.specs.Facts.{class_given, book_below}
-use Rattle.std.proofs.Common.{◌≡◌, pos, ◌+ℤ◌, ◌∙◌, sym, ap, arith}
-use Rattle.classes.specs.Sizes.{contracts_size}
+use Rattle.std.proofs.Common.{◌≡◌, pos, ◌+ℤ◌, ◌∙◌, sym, ◌<◌, ◌^◌, nat_abs}
 use Rattle.model.proofs.Limits.{closing_limit}
-use Rattle.model.specs.DayFile.{closing, multiplier, series_type, is_option}
+use Rattle.model.specs.DayFile.{series_type, is_option}
 use Rattle.model.specs.Steps.Classes.{worth}
 use Rattle.model.specs.Steps.Premium.{premium_of}
-use Rattle.numbers.specs.Abs.{fits_by, told}
+use Rattle.numbers.specs.Abs.{back, fits_by, told}
+use Rattle.numbers.specs.Machine.{i64_of}
 use Rattle.numbers.specs.Tests.{cond_on}
 use Rattle.premium.specs.Laws.{money_size, premium_fits}
+use Rattle.worth.specs.Closing.{closing_price}
 use Rattle.premium.proofs.series_premium.Goals as goal
+use Rattle.premium.proofs.series_premium.Goals.{After-worth-2}
 
-pub worth-open-requires : goal.worth-open-requires
-worth-open-requires c =
-    let h = c.args.class.now in
-    let s = c.args.s in
-    let e = c.series_at-series.ensures in
-    let w = class_given h in
-    let net = told c.net-net.type_inv c.net-net.ensures in
-    let price = told c.signed-price.type_inv (c.signed-price.ensures ∙ ap pos (c.closing.ensures ∙ (λ i. closing (e.0 i) (e.1 i)))) in
-    let size : multiplier c.series_at-series.result.day.now c.series_at-series.result.place ≡ multiplier (class_day h) s = λ i. multiplier (e.0 i) (e.1 i) in
-    (rw (net, size) (contracts_size (class_day h) h.account.now.nets.now w (class_book h) 0 s (book_below h.book) (omega arith) c.requires), rw price (closing_limit (class_day h) w.day.rows s c.requires))
-
-pub worth-exercised-requires : goal.worth-exercised-requires
-worth-exercised-requires c =
-    let h = c.args.class.now in
-    let s = c.args.s in
-    let e = c.series_at-series.ensures in
-    let w = class_given h in
-    let net = told c.net-exercised_net.type_inv c.net-exercised_net.ensures in
+-- what both positions are worth together, and that it fits
+value : (c : After-worth-2) → i64_of c.worth.result +ℤ i64_of c.worth-2.result ≡ premium_of (series_day c.args.held.now) (series_net c.args.held.now) (series_book c.args.held.now) c.args.held.now.class.now.class c.args.held.now.place
+value c =
+    let p = c.position.ensures in
+    let q = c.position-exercised.ensures in
+    let price = told c.from-price.type_inv (closing_price c.from-price.ensures c.closing.ensures c.series-series.ensures) in
     let money = told c.in_the_money-value.type_inv c.in_the_money-value.ensures in
-    let size : multiplier c.series_at-series.result.day.now c.series_at-series.result.place ≡ multiplier (class_day h) s = λ i. multiplier (e.0 i) (e.1 i) in
-    (rw (net, size) (contracts_size (class_day h) h.account.now.nets.now w (class_book h) 1 s (book_below h.book) (omega arith) c.requires), rw money (money_size (class_day h) w.day.rows h.class s h.inside c.requires).1)
+    λ i. told c.worth.type_inv (c.worth.ensures ∙ (λ j. worth (p.series.0 j) (p.series.1 j) (p.net j) (price j))) i
+    +ℤ told c.worth-2.type_inv (c.worth-2.ensures ∙ (λ j. worth (q.series.0 j) (q.series.1 j) (q.net j) (money j))) i
 
-pub add-requires : goal.add-requires
-add-requires c =
-    let h = c.args.class.now in
-    let e = c.series_at-series.ensures in
-    let net = told c.net-net.type_inv c.net-net.ensures in
-    let price = told c.signed-price.type_inv (c.signed-price.ensures ∙ ap pos (c.closing.ensures ∙ (λ i. closing (e.0 i) (e.1 i)))) in
-    let opened = told c.worth-open.type_inv (c.worth-open.ensures ∙ (λ i. worth (e.0 i) (e.1 i) (net i) (price i))) in
-    let exercised_net = told c.net-exercised_net.type_inv c.net-exercised_net.ensures in
-    let money = told c.in_the_money-value.type_inv c.in_the_money-value.ensures in
-    let exercised = told c.worth-exercised.type_inv (c.worth-exercised.ensures ∙ (λ i. worth (e.0 i) (e.1 i) (exercised_net i) (money i))) in
-    fits_by (λ i. opened i +ℤ exercised i) (premium_fits (class_day h) h.account.now.nets.now (class_given h) (class_book h) c.args.s (book_below h.book) c.requires h.class h.inside)
+fits : (c : After-worth-2) → nat_abs (premium_of (series_day c.args.held.now) (series_net c.args.held.now) (series_book c.args.held.now) c.args.held.now.class.now.class c.args.held.now.place) < 2 ^ 63
+fits c =
+    let h = c.args.held.now.class.now in
+    premium_fits (series_day c.args.held.now) h.account.now.nets.now (class_given h) (series_book c.args.held.now) c.args.held.now.place (book_below h.book) c.args.held.now.inside h.class h.inside
+
+pub worth-requires : goal.worth-requires
+worth-requires c =
+    let h = c.args.held.now.class.now in
+    rw (told c.from-price.type_inv (closing_price c.from-price.ensures c.closing.ensures c.series-series.ensures)) (closing_limit (series_day c.args.held.now) (class_given h).day.rows c.args.held.now.place c.args.held.now.inside)
+
+pub worth-requires-2 : goal.worth-requires-2
+worth-requires-2 c =
+    let h = c.args.held.now.class.now in
+    rw (told c.in_the_money-value.type_inv c.in_the_money-value.ensures) (money_size (series_day c.args.held.now) (class_given h).day.rows h.class c.args.held.now.place h.inside c.args.held.now.inside).1
+
+pub overflow_add-result : goal.overflow_add-result
+overflow_add-result c = let d = (goal.at.overflow_add-result c).After-worth-2 in fits_by (value d) (fits d)
 
 pub returns : goal.returns
 returns c =
-    let h = c.args.class.now in
-    let e = c.series_at-series.ensures in
-    let net = told c.net-net.type_inv c.net-net.ensures in
-    let price = told c.signed-price.type_inv (c.signed-price.ensures ∙ ap pos (c.closing.ensures ∙ (λ i. closing (e.0 i) (e.1 i)))) in
-    let opened = told c.worth-open.type_inv (c.worth-open.ensures ∙ (λ i. worth (e.0 i) (e.1 i) (net i) (price i))) in
-    let exercised_net = told c.net-exercised_net.type_inv c.net-exercised_net.ensures in
-    let money = told c.in_the_money-value.type_inv c.in_the_money-value.ensures in
-    let exercised = told c.worth-exercised.type_inv (c.worth-exercised.ensures ∙ (λ i. worth (e.0 i) (e.1 i) (exercised_net i) (money i))) in
+    let d = (goal.at.returns c).After-worth-2 in
+    let e = c.series-series.ensures in
     let option = sym (λ i. is_option (series_type (e.0 i) (e.1 i))) ∙ sym c.is_option.ensures ∙ c.if-not-is_option.false in
-    told c.add.type_inv (c.add.ensures ∙ (λ i. opened i +ℤ exercised i))
-    ∙ cond_on _ (premium_of (class_day h) (class_net h) (class_book h) h.class c.args.s) (pos 0) option
+    back (value d) (fits d) ∙ cond_on _ _ (pos 0) option

@@ -11,7 +11,7 @@ use Rattle.presence.proofs.groups_held.Goals as goal
 pub loop-c-init : goal.loop-c-init
 loop-c-init c =
     let d = c.args.day.now.words.now in
-    flags-none group_flags (group d) (class_held d (entry c.args.nets.now) (entry c.args.dvps.now) (book_number c.args.book))
+    flags-none group_flags (group d) (class_held d (entry c.args.of.now.nets.now) (entry c.args.of.now.dvps.now) (book_number c.args.of.now.book))
 
 pub any_held-requires : goal.any_held-requires
 any_held-requires c =
@@ -21,9 +21,9 @@ any_held-requires c =
 pub loop-c-preserved : goal.loop-c-preserved
 loop-c-preserved c =
     let d = c.args.day.now.words.now in
-    let n = entry c.args.nets.now in
-    let v = entry c.args.dvps.now in
-    let k = book_number c.args.book in
+    let n = entry c.args.of.now.nets.now in
+    let v = entry c.args.of.now.dvps.now in
+    let k = book_number c.args.of.now.book in
     let held = class_held d n v k in
     let cls = c.loop-c.c in
     let g = c.group-g.ensures ∙ (λ i. group (c.class.ensures.0 i) (c.class.ensures.1 i)) in
@@ -36,9 +36,9 @@ loop-c-preserved c =
 pub returns : goal.returns
 returns c =
     let d = c.args.day.now.words.now in
-    let n = entry c.args.nets.now in
-    let v = entry c.args.dvps.now in
-    let k = book_number c.args.book in
+    let n = entry c.args.of.now.nets.now in
+    let v = entry c.args.of.now.dvps.now in
+    let k = book_number c.args.of.now.book in
     let w = checked_day d c.args.day.now.checked in
     let e : c.loop-c.c ≡ class_count d = omega arith in
     c.loop-c.invariant ∙ ap (groups_to d n v k) e ∙ groups_are d n v k w.rows

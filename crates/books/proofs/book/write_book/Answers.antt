@@ -20,16 +20,16 @@ use Rattle.numbers.specs.Maps.{blocks-none}
 
 pub loop-g-init : goal.loop-g-init
 loop-g-init c =
-    let t = has_line (day_of c.args.after.now) (entry c.args.nets.now) (dvp_of c.args.after.now) (book_number c.args.book) in
-    rw (blocks-none t (line_words (day_of c.args.after.now) (net_of c.args.after.now) (dvp_of c.args.after.now) (book_number c.args.book)))
-    (record { at = omega arith; total = sym (sum_where-zero t (margin (day_of c.args.after.now) (net_of c.args.after.now) (dvp_of c.args.after.now) (book_number c.args.book))); memory = sym (put-none c.args.at c.args.memory.now) })
+    let t = has_line (day_of c.args.of.now.after.now) (entry c.args.of.now.nets.now) (dvp_of c.args.of.now.after.now) (book_number c.args.book) in
+    rw (blocks-none t (line_words (day_of c.args.of.now.after.now) (net_of c.args.of.now.after.now) (dvp_of c.args.of.now.after.now) (book_number c.args.book)))
+    (record { at = omega arith; total = sym (sum_where-zero t (margin (day_of c.args.of.now.after.now) (net_of c.args.of.now.after.now) (dvp_of c.args.of.now.after.now) (book_number c.args.book))); memory = sym (put-none c.args.at c.args.memory.now) })
 
 pub write_group-p-requires : goal.write_group-p-requires
 write_group-p-requires c =
-    let d = (day_of c.args.after.now) in
-    let n = entry c.args.nets.now in
-    let u = net_of c.args.after.now in
-    let v = dvp_of c.args.after.now in
+    let d = (day_of c.args.of.now.after.now) in
+    let n = entry c.args.of.now.nets.now in
+    let u = net_of c.args.of.now.after.now in
+    let v = dvp_of c.args.of.now.after.now in
     let k = (book_number c.args.book) in
     let few : ones c.args.map ≤ group_count = ones-le group_count c.args.map (omega (arith, c.requires.map_value, map_small d n v k)) in
     let m = c.args.memory.now in
@@ -38,10 +38,10 @@ write_group-p-requires c =
 
 pub loop-g-preserved : goal.loop-g-preserved
 loop-g-preserved c =
-    let d = (day_of c.args.after.now) in
-    let n = entry c.args.nets.now in
-    let u = net_of c.args.after.now in
-    let v = dvp_of c.args.after.now in
+    let d = (day_of c.args.of.now.after.now) in
+    let n = entry c.args.of.now.nets.now in
+    let u = net_of c.args.of.now.after.now in
+    let v = dvp_of c.args.of.now.after.now in
     let k = (book_number c.args.book) in
     let m = c.args.memory.now in
     let g = c.loop-g.g in
@@ -59,11 +59,11 @@ loop-g-preserved c =
 pub returns : goal.returns
 unfolding total book_lines
 returns c =
-    let d = (day_of c.args.after.now) in
-    let n = entry c.args.nets.now in
-    let u = net_of c.args.after.now in
-    let v = dvp_of c.args.after.now in
+    let d = (day_of c.args.of.now.after.now) in
+    let n = entry c.args.of.now.nets.now in
+    let u = net_of c.args.of.now.after.now in
+    let v = dvp_of c.args.of.now.after.now in
     let k = (book_number c.args.book) in
     let m = c.args.memory.now in
     let e : c.loop-g.g ≡ group_count = omega arith in
-    let q = c.loop-g.invariant.total ∙ ap (λ (j : ℕ). sum_where j (has_line (d) (n) (v) (k)) (margin (d) (u) (v) (k))) e in record { value = back q (total_small (d) (u) (v) (day_accepted c.args.after.now).rows (budget c.args.after.now) (n) (k) (book_below c.args.book)); memory_after = c.loop-g.invariant.memory ∙ ap (λ (j : ℕ). put c.args.at (lines_below (d) (n) (u) (v) (k) j) (m)) e }
+    let q = c.loop-g.invariant.total ∙ ap (λ (j : ℕ). sum_where j (has_line (d) (n) (v) (k)) (margin (d) (u) (v) (k))) e in record { value = back q (total_small (d) (u) (v) (day_accepted c.args.of.now.after.now).rows (budget c.args.of.now.after.now) (n) (k) (book_below c.args.book)); memory_after = c.loop-g.invariant.memory ∙ ap (λ (j : ℕ). put c.args.at (lines_below (d) (n) (u) (v) (k) j) (m)) e }

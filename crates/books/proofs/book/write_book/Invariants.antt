@@ -12,7 +12,7 @@ use Rattle.books.proofs.book.write_book.Given as goal
 abbrev pub invariant-loop-g : goal.invariant-loop-g
 invariant-loop-g l =
     record {
-      at : l.p.at ≡ l.at + length (lines_below (day_of l.after) (entry l.nets) (net_of l.after) (dvp_of l.after) (book_number l.book) l.g);
-      total : l.p.total ≡ sum_where l.g (has_line (day_of l.after) (entry l.nets) (dvp_of l.after) (book_number l.book)) (margin (day_of l.after) (net_of l.after) (dvp_of l.after) (book_number l.book));
-      memory : l.memory ≡ put l.at (lines_below (day_of l.after) (entry l.nets) (net_of l.after) (dvp_of l.after) (book_number l.book) l.g) l.fn.memory;
+      at : l.p.at ≡ l.at + length (lines_below (day_of l.fn.of.after.now) (entry l.fn.of.nets.now) (net_of l.fn.of.after.now) (dvp_of l.fn.of.after.now) (book_number l.book) l.g);
+      total : l.p.total ≡ sum_where l.g (has_line (day_of l.fn.of.after.now) (entry l.fn.of.nets.now) (dvp_of l.fn.of.after.now) (book_number l.book)) (margin (day_of l.fn.of.after.now) (net_of l.fn.of.after.now) (dvp_of l.fn.of.after.now) (book_number l.book));
+      memory : l.memory ≡ put l.at (lines_below (day_of l.fn.of.after.now) (entry l.fn.of.nets.now) (net_of l.fn.of.after.now) (dvp_of l.fn.of.after.now) (book_number l.book) l.g) l.fn.memory;
     }

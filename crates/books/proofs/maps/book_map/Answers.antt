@@ -11,13 +11,13 @@ use Rattle.numbers.specs.Table.{get_or-tabulate}
 use Rattle.presence.specs.Presence.{group_flags}
 
 pub loop-g-init : goal.loop-g-init
-loop-g-init c = record { map = sym (map-none (has_line c.args.day.now.words.now (entry c.args.nets.now) (entry c.args.dvps.now) (book_number c.args.book))); bit = refl }
+loop-g-init c = record { map = sym (map-none (has_line c.args.day.now.words.now (entry c.args.of.now.nets.now) (entry c.args.of.now.dvps.now) (book_number c.args.of.now.book))); bit = refl }
 
 pub with_bit-map-requires : goal.with_bit-map-requires
 with_bit-map-requires c =
     let g = c.loop-g.g in
     let bit_size : c.loop-g.bit ≤ 2 ^ 28 = let h : g ≤ 28 = omega arith in omega (arith, c.loop-g.invariant.bit, pow_mono h) in
-    let t = has_line c.args.day.now.words.now (entry c.args.nets.now) (entry c.args.dvps.now) (book_number c.args.book) in
+    let t = has_line c.args.day.now.words.now (entry c.args.of.now.nets.now) (entry c.args.of.now.dvps.now) (book_number c.args.of.now.book) in
     let map_size : c.loop-g.map < 2 ^ group_count = let h : g ≤ group_count = omega arith in omega (arith, c.loop-g.invariant.map, map_lt t g, pow_mono h) in
     (map_size, omega (arith, bit_size))
 
@@ -29,7 +29,7 @@ overflow_mul-bit c =
 
 pub loop-g-preserved : goal.loop-g-preserved
 loop-g-preserved c =
-    let t = has_line c.args.day.now.words.now (entry c.args.nets.now) (entry c.args.dvps.now) (book_number c.args.book) in
+    let t = has_line c.args.day.now.words.now (entry c.args.of.now.nets.now) (entry c.args.of.now.dvps.now) (book_number c.args.of.now.book) in
     let g = c.loop-g.g in
     let flag_is : get_or c.groups_held-held.result g false ≡ t g = ap (λ l. get_or l g false) c.groups_held-held.ensures ∙ get_or-tabulate group_flags t g false (omega arith) in
     record {
@@ -41,6 +41,6 @@ pub returns : goal.returns
 unfolding book_map
 returns c =
     let e : c.loop-g.g ≡ group_count = omega arith in
-    let h = has_line c.args.day.now.words.now (entry c.args.nets.now) (entry c.args.dvps.now) (book_number c.args.book) in
+    let h = has_line c.args.day.now.words.now (entry c.args.of.now.nets.now) (entry c.args.of.now.dvps.now) (book_number c.args.of.now.book) in
     let q = c.loop-g.invariant.map ∙ ap (map_below h) e in
     (q, omega (arith, q, map_lt h group_count))

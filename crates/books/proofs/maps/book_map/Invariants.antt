@@ -8,6 +8,6 @@ use Rattle.books.proofs.maps.book_map.Given as goal
 abbrev pub invariant-loop-g : goal.invariant-loop-g
 invariant-loop-g l =
     record {
-      map : l.map ≡ map_below (has_line l.day.words.now (entry l.nets) (entry l.dvps) (book_number l.fn.book)) l.g;
+      map : l.map ≡ map_below (has_line l.day.words.now (entry l.fn.of.nets.now) (entry l.fn.of.dvps.now) (book_number l.fn.of.book)) l.g;
       bit : l.bit ≡ 2 ^ l.g;
     }

@@ -6,4 +6,4 @@ use Rattle.margin.specs.Groups.{none_below}
 
 pub loop-c-init : goal.loop-c-init
 loop-c-init c =
-    (c.new-sum.ensures ∙ none_below (day_of c.args.account.now) (net_of c.args.account.now) (dvp_of c.args.account.now) (book_number c.args.book) c.args.g)
+    (c.new-sum.ensures ∙ none_below (day_of c.args.held.now.account.now) (net_of c.args.held.now.account.now) (dvp_of c.args.held.now.account.now) (book_number c.args.held.now.book) c.args.held.now.group)

@@ -7,7 +7,7 @@ use Rattle.points.proofs.class_points.class_points.Given as goal
 abbrev pub invariant-loop-s : goal.invariant-loop-s
 invariant-loop-s l =
     record {
-      sum : l.sum.at ≡ points_to (class_day l.class) (class_net l.class) (class_book l.class) l.class.class l.s;
-      short : l.before.short ≡ short_before (class_day l.class) (class_net l.class) (class_book l.class) l.class.class l.s;
-      long : l.before.long ≡ long_before (class_day l.class) (class_net l.class) (class_book l.class) l.class.class l.s;
+      sum : l.sum.at ≡ points_to (class_day l.fn.of.class.now) (class_net l.fn.of.class.now) (class_book l.fn.of.class.now) l.fn.of.class.now.class l.s;
+      short : l.before.short ≡ short_before (class_day l.fn.of.class.now) (class_net l.fn.of.class.now) (class_book l.fn.of.class.now) l.fn.of.class.now.class l.s;
+      long : l.before.long ≡ long_before (class_day l.fn.of.class.now) (class_net l.fn.of.class.now) (class_book l.fn.of.class.now) l.fn.of.class.now.class l.s;
     }

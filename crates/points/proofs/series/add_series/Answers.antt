@@ -1,71 +1,73 @@
-use Rattle.holdings.specs.Seen.{class_day, class_net, class_book}
+use Rattle.holdings.specs.declared.SeriesHoldings.{SeriesHoldings}
+use Rattle.holdings.specs.Seen.{series_day, series_net, series_book}
 use Rattle.holdings.specs.Facts.{class_given, book_below}
-use Rattle.std.proofs.Common.{◌≡◌, cond, ◌*◌, ◌≤◌, nat_abs, w64, to_z, of_z, to_z-of_z, ◌∙◌, ap, arith}
+use Rattle.std.proofs.Common.{◌≡◌, cond, ◌*◌, ◌≤◌, ℤ, nat_abs, to_z-of_z, ◌∙◌, ap, arith}
 use Rattle.model.specs.DayFile.{series_count, series_type, is_future, multiplier}
-use Rattle.model.specs.Steps.Spread.{spread_quantity}
 use Rattle.model.specs.Limits.{contracts_limit}
 use Rattle.spread.specs.Sides.{non_spread_of}
 use Rattle.points.specs.Series.{open_added, exercised_added, both_added, counted_size, counted, opened-size}
 use Rattle.points.proofs.series.add_series.Goals as goal
-use Rattle.classes.specs.Sizes.{contracts_size, net-size}
+use Rattle.points.proofs.series.add_series.Goals.{After-counted_net, After-add_open-next}
+use Rattle.classes.specs.Sizes.{net-size}
 use Rattle.model.specs.Steps.Points.{counted_net}
-use Rattle.model.specs.Steps.Positions.{exercised_net, open_net}
+use Rattle.model.specs.Steps.Positions.{exercised_net}
 use Rattle.numbers.specs.Abs.{told}
+use Rattle.numbers.specs.Machine.{i64_of}
 use Rattle.spread.specs.Laws.{long-size, quantity_size, short-size}
+
+-- the net of a series that counts at the points
+abbrev counted_of : SeriesHoldings → ℤ
+counted_of h = counted_net (series_day h) (series_net h) (series_book h) h.class.now.class h.place
+
+small : (h : SeriesHoldings) → nat_abs (counted_of h) * multiplier (series_day h) h.place ≤ contracts_limit
+small h =
+    let l = h.class.now in
+    counted_size (series_day h) l.account.now.nets.now (class_given l) (series_book h) l.class h.place (book_below l.book) l.inside h.inside
+
+-- is what the code counts
+counts : (c : After-counted_net) → i64_of c.counted_net.result ≡ counted_of c.args.held.now
+counts c =
+    let h = c.args.held.now in
+    let quantity = to_z-of_z c.ranges.quantity ∙ c.requires.quantity_value in
+    let net = told c.net-net.type_inv c.net-net.ensures in
+    told c.counted_net.type_inv
+    (c.counted_net.ensures
+    ∙ (λ i. cond (is_future (series_type (series_day h) h.place)) (non_spread_of (quantity i) (c.requires.before_value.0 i) (c.requires.before_value.1 i) (net i)) (net i))
+    ∙ counted (series_day h) (series_net h) (series_book h) h.class.now.class h.place)
+
+-- and what the open position makes of the ten amounts
+opens : (c : After-add_open-next) → i64_of c.counted_net.result ≡ counted_of c.args.held.now → c.add_open-next.result.at ≡ open_added (series_day c.args.held.now) c.args.held.now.place c.args.points.at (counted_of c.args.held.now)
+opens c e = c.add_open-next.ensures ∙ ap (open_added (series_day c.args.held.now) c.args.held.now.place c.args.points.at) e
 
 pub counted_net-requires : goal.counted_net-requires
 counted_net-requires c =
-    let d = class_day c.args.class.now in
-    let k = class_book c.args.class.now in
-    let s = c.args.s in
-    let n = class_net c.args.class.now in
-    let quantity_is : to_z w64 (of_z w64 c.args.quantity) ≡ spread_quantity d n k c.args.class.now.class = to_z-of_z c.ranges.quantity ∙ c.requires.quantity_value in
-    let open_size : nat_abs (open_net n k s) ≤ contracts_limit = net-size d c.args.class.now.account.now.nets.now (class_given c.args.class.now) k 0 s (book_below c.args.class.now.book) (omega arith) c.requires.s_bound in
-    let net_is : to_z w64 (of_z w64 c.net-net.result) ≡ open_net (n) (k) (s) = told c.net-net.type_inv c.net-net.ensures in
-    let w = (class_given c.args.class.now) in
-    let h : s ≤ series_count (d) = omega (arith, c.requires.s_bound) in (c.requires.s_bound, rw (quantity_is) (quantity_size (d) c.args.class.now.account.now.nets.now w (k) c.args.class.now.class (book_below c.args.class.now.book) c.args.class.now.inside), rw c.requires.before_value.0 (short-size (d) c.args.class.now.account.now.nets.now w (k) c.args.class.now.class (book_below c.args.class.now.book) c.args.class.now.inside (s) h), rw c.requires.before_value.1 (long-size (d) c.args.class.now.account.now.nets.now w (k) c.args.class.now.class (book_below c.args.class.now.book) c.args.class.now.inside (s) h), rw (net_is) (open_size))
+    let h = c.args.held.now in
+    let l = h.class.now in
+    let w = class_given l in
+    let b = book_below l.book in
+    let before : h.place ≤ series_count (series_day h) = omega (arith, h.inside) in (
+      rw (to_z-of_z c.ranges.quantity ∙ c.requires.quantity_value) (quantity_size (series_day h) l.account.now.nets.now w (series_book h) l.class b l.inside),
+      rw c.requires.before_value.0 (short-size (series_day h) l.account.now.nets.now w (series_book h) l.class b l.inside h.place before),
+      rw c.requires.before_value.1 (long-size (series_day h) l.account.now.nets.now w (series_book h) l.class b l.inside h.place before),
+      rw (told c.net-net.type_inv c.net-net.ensures) (net-size (series_day h) l.account.now.nets.now w (series_book h) 0 h.place b (omega arith) h.inside),
+    )
 
 pub add_open-next-requires : goal.add_open-next-requires
 add_open-next-requires c =
-    let d = class_day c.args.class.now in
-    let k = class_book c.args.class.now in
-    let s = c.args.s in
-    let n = class_net c.args.class.now in
-    let counted_small : nat_abs (counted_net d n k c.args.class.now.class s) * multiplier d s ≤ contracts_limit = counted_size d c.args.class.now.account.now.nets.now (class_given c.args.class.now) k c.args.class.now.class s (book_below c.args.class.now.book) c.args.class.now.inside c.requires.s_bound in
-    let quantity_is : to_z w64 (of_z w64 c.args.quantity) ≡ spread_quantity d n k c.args.class.now.class = to_z-of_z c.ranges.quantity ∙ c.requires.quantity_value in
-    let net_is : to_z w64 (of_z w64 c.net-net.result) ≡ open_net (n) (k) (s) = told c.net-net.type_inv c.net-net.ensures in
-    let counted_is : to_z w64 (of_z w64 c.counted_net.result) ≡ (counted_net (d) (n) (k) c.args.class.now.class (s)) = told c.counted_net.type_inv (c.counted_net.ensures ∙ (λ i. cond (is_future (series_type (d) (s))) (non_spread_of (quantity_is i) (c.requires.before_value.0 i) (c.requires.before_value.1 i) (net_is i)) (net_is i)) ∙ counted (d) (n) (k) c.args.class.now.class (s)) in
-    record { s_bound = (c.requires.s_bound, rw (counted_is) (counted_small)); by_index = (λ j h. omega (arith, c.requires.by_index j h)) }
+    record { limit = rw (counts (goal.at.add_open-next-requires c).After-counted_net) (small c.args.held.now); by_index = (λ j h. omega (arith, c.requires.by_index j h)) }
 
 pub add_exercised-requires : goal.add_exercised-requires
 add_exercised-requires c =
-    let d = class_day c.args.class.now in
-    let n = class_net c.args.class.now in
-    let k = class_book c.args.class.now in
-    let s = c.args.s in
-    let at = c.args.points.at in
-    let counted_small : nat_abs (counted_net d n k c.args.class.now.class s) * multiplier d s ≤ contracts_limit = counted_size d c.args.class.now.account.now.nets.now (class_given c.args.class.now) k c.args.class.now.class s (book_below c.args.class.now.book) c.args.class.now.inside c.requires.s_bound in
-    let quantity_is : to_z w64 (of_z w64 c.args.quantity) ≡ spread_quantity d n k c.args.class.now.class = to_z-of_z c.ranges.quantity ∙ c.requires.quantity_value in
-    let net_is : to_z w64 (of_z w64 c.net-net.result) ≡ open_net (n) (k) (s) = told c.net-net.type_inv c.net-net.ensures in
-    let counted_is : to_z w64 (of_z w64 c.counted_net.result) ≡ (counted_net (d) (n) (k) c.args.class.now.class (s)) = told c.counted_net.type_inv (c.counted_net.ensures ∙ (λ i. cond (is_future (series_type (d) (s))) (non_spread_of (quantity_is i) (c.requires.before_value.0 i) (c.requires.before_value.1 i) (net_is i)) (net_is i)) ∙ counted (d) (n) (k) c.args.class.now.class (s)) in
-    let opened = open_added d s at (counted_net d n k c.args.class.now.class s) in
-    let opened_is : c.add_open-next.result.at ≡ opened = c.add_open-next.ensures ∙ ap (open_added (d) (s) (at)) (counted_is) in
-    let exercised_is : to_z w64 (of_z w64 c.net.result) ≡ (exercised_net (n) (k) (s)) = told c.net.type_inv c.net.ensures in
-    record { s_bound = (c.requires.s_bound, rw (exercised_is) (contracts_size (d) c.args.class.now.account.now.nets.now (class_given c.args.class.now) (k) 1 (s) (book_below c.args.class.now.book) (omega arith) c.requires.s_bound)); by_index = rw (opened_is) (opened-size (d) (class_given c.args.class.now).day.rows (s) (at) (counted_net (d) (n) (k) c.args.class.now.class (s)) c.requires.s_bound (counted_small) c.requires.by_index) }
+    let h = c.args.held.now in
+    let s = goal.at.add_exercised-requires c in
+    rw (opens s.After-add_open-next (counts s.After-counted_net))
+    (opened-size (series_day h) (class_given h.class.now).day.rows h.place c.args.points.at (counted_of h) h.inside (small h) c.requires.by_index)
 
 pub returns : goal.returns
 returns c =
-    let d = class_day c.args.class.now in
-    let n = class_net c.args.class.now in
-    let k = class_book c.args.class.now in
-    let s = c.args.s in
-    let at = c.args.points.at in
-    let quantity_is : to_z w64 (of_z w64 c.args.quantity) ≡ spread_quantity d n k c.args.class.now.class = to_z-of_z c.ranges.quantity ∙ c.requires.quantity_value in
-    let net_is : to_z w64 (of_z w64 c.net-net.result) ≡ open_net (n) (k) (s) = told c.net-net.type_inv c.net-net.ensures in
-    let counted_is : to_z w64 (of_z w64 c.counted_net.result) ≡ (counted_net (d) (n) (k) c.args.class.now.class (s)) = told c.counted_net.type_inv (c.counted_net.ensures ∙ (λ i. cond (is_future (series_type (d) (s))) (non_spread_of (quantity_is i) (c.requires.before_value.0 i) (c.requires.before_value.1 i) (net_is i)) (net_is i)) ∙ counted (d) (n) (k) c.args.class.now.class (s)) in
-    let opened = open_added d s at (counted_net d n k c.args.class.now.class s) in
-    let opened_is : c.add_open-next.result.at ≡ opened = c.add_open-next.ensures ∙ ap (open_added (d) (s) (at)) (counted_is) in
-    let exercised_is : to_z w64 (of_z w64 c.net.result) ≡ (exercised_net (n) (k) (s)) = told c.net.type_inv c.net.ensures in
+    let h = c.args.held.now in
+    let s = goal.at.returns c in
+    let opened = opens s.After-add_open-next (counts s.After-counted_net) in
     c.add_exercised.ensures
-    ∙ (λ i. exercised_added (d) c.args.class.now.class (s) (opened_is i) (exercised_is i))
-    ∙ both_added (d) (n) (k) c.args.class.now.class (s) (at)
+    ∙ (λ i. exercised_added (series_day h) h.class.now.class h.place (opened i) (exercised_net (series_net h) (series_book h) h.place))
+    ∙ both_added (series_day h) (series_net h) (series_book h) h.class.now.class h.place c.args.points.at

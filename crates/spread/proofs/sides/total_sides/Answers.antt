@@ -19,14 +19,10 @@ loop-s-init c =
 pub add-sum-requires : goal.add-sum-requires
 add-sum-requires c =
     let h = c.args.class.now in
-    let m : c.loop-s.s ≤ series_count (class_day h) = omega arith in
-    record {
-      s_bound = omega arith;
-      short_bound = (
-        rw c.loop-s.invariant.short (short-size (class_day h) h.account.now.nets.now (class_given h) (class_book h) h.class (book_below h.book) (class_range h).class c.loop-s.s m),
-        rw c.loop-s.invariant.long (long-size (class_day h) h.account.now.nets.now (class_given h) (class_book h) h.class (book_below h.book) (class_range h).class c.loop-s.s m),
-      );
-    }
+    let m : c.loop-s.s ≤ series_count (class_day h) = omega arith in (
+      rw c.loop-s.invariant.short (short-size (class_day h) h.account.now.nets.now (class_given h) (class_book h) h.class (book_below h.book) (class_range h).class c.loop-s.s m),
+      rw c.loop-s.invariant.long (long-size (class_day h) h.account.now.nets.now (class_given h) (class_book h) h.class (book_below h.book) (class_range h).class c.loop-s.s m),
+    )
 
 pub loop-s-preserved : goal.loop-s-preserved
 loop-s-preserved c =

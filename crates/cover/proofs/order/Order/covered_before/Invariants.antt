@@ -4,4 +4,4 @@ use Rattle.cover.proofs.order.Order.covered_before.Given as goal
 use Rattle.cover.specs.Before.{before_to}
 
 abbrev pub invariant-loop-t : goal.invariant-loop-t
-invariant-loop-t l = l.sum ≡ before_to (day_of l.self.before.now) (net_of l.self.before.now) l.s l.t
+invariant-loop-t l = l.sum ≡ before_to (day_of l.self.account.now.holdings.now) (net_of l.self.account.now.holdings.now) l.s l.t
