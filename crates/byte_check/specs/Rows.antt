@@ -31,6 +31,16 @@ pub both_opened : (day batch : List ℕ) → files_check true day true batch ≡
 unfolding files_check bytes_check
 both_opened day batch = refl
 
+-- the bytes of a day file that was not opened do not count
+pub day_unopened : (x y : List ℕ) (batch_opened : Bool) (batch : List ℕ) → files_check false x batch_opened batch ≡ files_check false y batch_opened batch
+unfolding files_check
+day_unopened x y batch_opened batch = refl
+
+-- those of a batch neither
+pub batch_unopened : (day_opened : Bool) (day x y : List ℕ) → files_check day_opened day false x ≡ files_check day_opened day false y
+unfolding files_check
+batch_unopened day_opened day x y = refl
+
 -- ---- files that pass
 
 both_rows : (p q : Bool) → tried (plain_row (Bytes DayFile) p ∷ plain_row (Bytes BatchFile) q ∷ []) ≡ Ok tt → (p ≡ false) × (q ≡ false)

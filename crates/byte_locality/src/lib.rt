@@ -17,7 +17,7 @@ pub fn byte_edits(day: &[u8], batch: &[u8], edited: &[u8], memory: &mut [u8], ot
     let _ = byte_report(day, edited, other);
 }
 
-// The order of the records changes nothing.
+// The order of the records changes nothing. Two calls again: each function is the claim that its contract makes.
 pub fn byte_orders(
     day: &[u8],
     batch: &[u8],

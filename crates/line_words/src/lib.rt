@@ -21,34 +21,34 @@ pub const MOST_LINES: usize = 2 * GROUPS;
 pub const FRAME_WORDS: usize = 13;
 
 // The three words of an amount.
-fn write_amount(out: &mut [u32], at: usize, z: i64)
-    requires { (at + 3 ≤ length out.old) × (nat_abs z < 2 ^ 63) }
-    ensures { out.new ≡ put at (amount_words z) out.old }
+fn amount_words(z: i64) -> [u32; 3]
+    requires { nat_abs z < 2 ^ 63 }
+    ensures { result ≡ amount_words z }
 {
-    let words = [
+    [
         words::high_word(z),
         words::middle_word(z),
         words::low_word(z),
-    ];
-    out[at..at + 3].copy_from_slice(&words);
+    ]
 }
 
 // Amounts one behind the other.
-fn write_amounts(out: &mut [u32], at: usize, amounts: &[i64])
-    requires { (at + 3 * length amounts.now ≤ length out.old) × Small amounts.now }
-    ensures { out.new ≡ put at (words_of_amounts amounts.now) out.old }
+fn write_amounts(out: &mut [u32], amounts: &[i64])
+    requires { (3 * length amounts.now ≤ length out.old) × Small amounts.now }
+    ensures { out.new ≡ put 0 (words_of_amounts amounts.now) out.old }
 {
+    // by index: of a slice's mutable chunks a proof knows the length alone
     for (i, z) in amounts.iter().enumerate() {
-        write_amount(out, at + 3 * i, *z);
+        out[3 * i..3 * i + 3].copy_from_slice(&amount_words(*z));
     }
 }
 
-// A word of a kind, and amounts behind it, from word `at` on: a line (its key) or the totals.
+// A word of a kind, and amounts behind it, from word `at` on: a line (its key) or the totals. The report is one lent memory, in which each has its place.
 pub fn write_headed_at(memory: &mut [u32], at: usize, kind: Kind, payload: u32, amounts: &[i64])
     requires payload_bound { payload < 2 ^ 29 }
     requires amounts_in_bounds { (at + (1 + 3 * length amounts.now) ≤ length memory.old) × Small amounts.now }
     ensures { memory.new ≡ put at (word (kind_number kind) payload ∷ words_of_amounts amounts.now) memory.old }
 {
     memory[at] = words::word(kind, payload);
-    write_amounts(memory, at + 1, amounts);
+    write_amounts(&mut memory[at + 1..], amounts);
 }

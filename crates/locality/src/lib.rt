@@ -32,7 +32,7 @@ pub struct Answers {
     pub reordered: Result<usize, Check>,
 }
 
-// The order of the records and of the deposits changes nothing.
+// The order of the records and of the deposits changes nothing. Two calls again: each function is the claim that its contract makes.
 pub fn report_orders(
     day: &[u32],
     batch: &[u32],

@@ -6,7 +6,7 @@ use std::fs::File;
 use std::io;
 use std::io::Write;
 use text::lines::LONGEST_TEXT;
-use whole_file::{read_full, was_read};
+use whole_file::read_whole;
 
 fn main(rt: HostRuntime) -> io::Result<()> {
     // Each buffer holds one word more than the longest form, so that a longer file is seen.
@@ -15,13 +15,9 @@ fn main(rt: HostRuntime) -> io::Result<()> {
     let mut out = [0u8; LONGEST_TEXT];
     let mut day_file = File::open(&rt, "day.w32").ok();
     let mut batch_file = File::open(&rt, "pos.w32").ok();
-    let days = read_full(&mut day_file, &mut day);
-    let positions = read_full(&mut batch_file, &mut batch);
     let n = program::print_files(
-        was_read(&mut day_file, days == day.len()),
-        &day[..days],
-        was_read(&mut batch_file, positions == batch.len()),
-        &batch[..positions],
+        read_whole(&mut day_file, &mut day),
+        read_whole(&mut batch_file, &mut batch),
         &mut out,
     );
     rt.stdout().write_all(&out[..n])

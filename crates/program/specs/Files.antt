@@ -1,14 +1,17 @@
 -- The program's answer for its files, and that what it prints from its memory is the model's text.
-use Rattle.std.specs.Prelude.{◌≡◌, refl, Bool, ℕ, zero, suc, ◌+◌, ◌*◌, ◌/◌, ◌≤◌, drop, replicate, Ok, Err}
+use Rattle.std.specs.Prelude.{◌≡◌, refl, Bool, true, false, not, ◌||◌, ℕ, zero, suc, ◌+◌, ◌*◌, ◌/◌, ◌≤◌, drop, replicate, Option, is_some, Ok, Err}
 use Rattle.std.proofs.Common.{sym, ap, ◌∙◌, arith, append-nil, length-append, length-take-le}
 use mathlib.Core.List.{List, [], ◌∷◌, ◌++◌}
 use Rattle.std.proofs.Math.ListN.{length, length-replicate}
 use Rattle.model.specs.Outcomes.{Answer}
 use Rattle.model.specs.declared.Check.{Check}
+use Rattle.model.specs.declared.Check.TheVariants.{Bytes}
+use Rattle.model.specs.declared.BytesFault.TheVariants.{DayFile, BatchFile}
+use Rattle.model.specs.Rows.{tried, plain_row}
 use Rattle.model.specs.Outcomes.{Verdict}
 use Rattle.model.specs.Netting.{net, dvp}
 use Rattle.model.specs.Calls.{net_after, answer, answer_of, report, memory_after}
-use Rattle.model.specs.Bytes.{words_of, bytes_of, byte_answer, bytes_after, written_bytes}
+use Rattle.model.specs.Bytes.{row1, words_of, bytes_of, byte_answer, bytes_after, written_bytes}
 use Rattle.model.specs.Printed.{files_check, program_text, printed}
 use Rattle.model.proofs.ByteWords.{words_length, words_bytes, words_drop}
 use Rattle.model.proofs.Outcome.{answer-report, memory_of}
@@ -17,12 +20,18 @@ use Rattle.model.proofs.Read.{count_read_lem, count_small}
 use Rattle.std.proofs.Math.Seq.{drop-length}
 use Rattle.io.specs.Counts.{IsPrefixLen}
 use Rattle.numbers.specs.Put.{put, put_front}
+use Rattle.byte_check.specs.Files.{file_bytes}
 use Rattle.byte_check.specs.Rows.{passed-opened}
+use denote.Ref.{Bor}
 use Rattle.text.specs.Room.{Room}
 use Rattle.model.specs.Report.{longest_report}
 
 abbrev pub files_answer : Bool → List ℕ → Bool → List ℕ → Answer
 files_answer day_opened day batch_opened batch = answer_of (files_check day_opened day batch_opened batch) (answer (words_of day) (words_of batch) [] longest_report)
+
+-- what the program prints for two files
+abbrev pub files_text : Option (Bor (List ℕ)) → Option (Bor (List ℕ)) → List ℕ
+files_text day batch = program_text (is_some day) (file_bytes day) (is_some batch) (file_bytes batch)
 
 -- what is printed of the call over words without deposits
 abbrev pub call_text : List ℕ → List ℕ → List ℕ → List ℕ
@@ -110,3 +119,21 @@ room_of_lem d b m (Ok n) w e q =
 
 pub words_shown : (d b m : List ℕ) (r : Answer) (w : List ℕ) → r ≡ answer d b [] (length m) → w ≡ memory_after d b [] m → printed r w ≡ call_text d b m
 words_shown d b m r w e q = ap (λ (a : Answer). printed a w) e ∙ ap (printed (answer d b [] (length m))) q
+
+-- ---- the bytes of a file that was not opened do not count
+
+batch_refused : (p : Bool) (a b : Answer) (w x : List ℕ)
+    → printed (answer_of (tried (plain_row (Bytes DayFile) p ∷ plain_row (Bytes BatchFile) true ∷ [])) a) w ≡ printed (answer_of (tried (plain_row (Bytes DayFile) p ∷ plain_row (Bytes BatchFile) true ∷ [])) b) x
+unfolding tried
+batch_refused true a b w x = refl
+batch_refused false a b w x = refl
+
+-- of a day file
+pub day_unopened : (x y : List ℕ) (batch_opened : Bool) (batch : List ℕ) → program_text false x batch_opened batch ≡ program_text false y batch_opened batch
+unfolding program_text files_check tried
+day_unopened x y batch_opened batch = refl
+
+-- of a batch
+pub batch_unopened : (day_opened : Bool) (day x y : List ℕ) → program_text day_opened day false x ≡ program_text day_opened day false y
+unfolding program_text files_check
+batch_unopened day_opened day x y = batch_refused (not day_opened || row1 day) _ _ _ _

@@ -38,7 +38,7 @@ impl Text<'_> {
         self.len = end;
     }
 
-    // The decimal digits of n.
+    // The decimal digits of n, written digit by digit as the model's `digits`.
     fn write_decimal(&mut self, n: u64)
         requires { HasRoom 20 self.old }
         ensures { Wrote (decimal n) self.old self.new }

@@ -1,7 +1,7 @@
 // The last line of a text, read behind its head: a refusal's number and place, or a report's totals.
 #![tactic(auto)]
 
-ghost use Rattle.std.specs.Prelude.{◌≡◌};
+ghost use Rattle.std.specs.Prelude.{◌≡◌, true};
 ghost use Rattle.model.specs.TextReading.{ended, refusal_of, place_read, refusal_read, account_read, fail_read, totals_read};
 
 use model::{ReportTotals, TextSays};
@@ -15,22 +15,27 @@ fn is_ended(text: &[u8]) -> bool
     has_head(text, b"\n") & (text.len() == 1)
 }
 
-// A refusal by its number and place, where the text ends behind them.
-fn refusal(number: u64, place: u64, end: bool) -> Option<TextSays>
-    ensures { result ≡ refusal_of number place end }
+// A refusal by its number and place.
+fn refusal(number: u64, place: u64) -> Option<TextSays>
+    ensures { result ≡ refusal_of number place true }
 {
-    if (0 < number) & (number < 4294967295) & (place < 4294967296) & end {
-        return Some(TextSays::Refusal(number as u32, place as u32));
+    let number = u32::try_from(number).ok()?;
+    let place = u32::try_from(place).ok()?;
+    if number == 0 || number == u32::MAX {
+        return None;
     }
-    None
+    Some(TextSays::Refusal(number, place))
 }
 
-// Behind a refusal's number: its place.
+// Behind a refusal's number: its place, where the text ends behind it.
 fn read_place(number: u64, text: &[u8]) -> Option<TextSays>
     ensures { result ≡ place_read number text.now }
 {
     let (place, k) = read_field(text)?;
-    refusal(number, place, is_ended(&text[k..]))
+    if !is_ended(&text[k..]) {
+        return None;
+    }
+    refusal(number, place)
 }
 
 // Behind the head of a refusal: its number and place.

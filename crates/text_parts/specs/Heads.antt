@@ -1,7 +1,8 @@
--- A text's head compared, byte by byte.
-use Rattle.std.specs.Prelude.{◌≡◌, refl, Bool, true, false, ◌&&◌, List, [], ◌∷◌, ℕ, suc, ◌+◌, ◌≤◌, ◌<◌, ◌≢◌, eqb, length, drop, get_or}
+-- A text's head compared, byte by byte, and as the library compares the front of a slice.
+use Rattle.std.specs.Prelude.{◌≡◌, refl, Bool, true, false, ◌&&◌, List, [], ◌∷◌, ℕ, suc, ◌+◌, ◌≤◌, ◌<◌, ◌≢◌, eqb, length, take, drop, get_or}
 use Rattle.std.proofs.Common.{sym, ap, ◌∙◌, arith, eq-eqb, ne_eqb, drop-cons}
 use Rattle.std.proofs.Math.Seq.{drop-length}
+use lib.Pointwise.{pointwise}
 use Rattle.numbers.specs.Tests.{and_false}
 use Rattle.model.specs.TextReading.{begins}
 
@@ -27,3 +28,8 @@ same_byte h t i e f q =
 
 pub all_bytes : (h t : List ℕ) (i : ℕ) → i ≡ length h → true ≡ begins (drop i h) (drop i t)
 all_bytes h t i e = rw (e, drop-length h) refl
+
+pub front_begins : (h t : List ℕ) → pointwise eqb (take (length h) t) h ≡ begins h t
+front_begins [] t = refl
+front_begins (h ∷ hs) [] = refl
+front_begins (h ∷ hs) (c ∷ cs) = ap (λ (b : Bool). eqb c h && b) (front_begins hs cs)

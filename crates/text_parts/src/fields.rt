@@ -1,4 +1,4 @@
-// Numbers and amounts read, each with the bytes that it takes. Each function reads at the front of the text that it is given.
+// Numbers and amounts read, each with how many bytes it takes, as the model reads, digit by digit. Each function reads at the front of the text that it is given.
 ghost use Rattle.std.specs.Prelude.{◌≡◌, ◌≤◌, IfSome, length, drop};
 ghost use Rattle.model.specs.TextReading.{of_digits, decimal_read, behind, field_read, plus as plus_of, minus as minus_of, amount_read};
 

@@ -7,20 +7,16 @@ ghost use Rattle.model.specs.TextReading.{last_read, lines_read, count_read, rep
 use model::TextSays;
 use text_last_line::{read_refusal, read_totals};
 use text_parts::fields::read_field;
-use text_parts::heads::has_head;
 use text_parts::lines::lines_bytes;
 
 // The most lines that a text can have.
-const MOST_LINES: u64 = line_words::MOST_LINES as u64;
+const MOST_LINES: u32 = line_words::MOST_LINES as u32;
 
 // The last line.
 fn read_last(n: u32, text: &[u8]) -> Option<TextSays>
     ensures { result ≡ last_read n text.now }
 {
-    if has_head(text, b"TOTAL") {
-        return read_totals(n, &text[5..]);
-    }
-    None
+    read_totals(n, text.strip_prefix(b"TOTAL")?)
 }
 
 // Behind the first line: n lines, which are passed over, and the last line.
@@ -35,10 +31,11 @@ fn read_lines(n: u32, text: &[u8]) -> Option<TextSays>
 fn read_count(n: u64, text: &[u8]) -> Option<TextSays>
     ensures { result ≡ count_read n text.now }
 {
-    if (n <= MOST_LINES) & has_head(text, b"\n") {
-        return read_lines(n as u32, &text[1..]);
+    let n = u32::try_from(n).ok()?;
+    if MOST_LINES < n {
+        return None;
     }
-    None
+    read_lines(n, text.strip_prefix(b"\n")?)
 }
 
 // Behind the head of a report.
@@ -53,11 +50,8 @@ fn read_report(text: &[u8]) -> Option<TextSays>
 pub fn read_text(text: &[u8]) -> Option<TextSays>
     ensures { result ≡ text_says text.now }
 {
-    if has_head(text, b"REFUSED") {
-        return read_refusal(&text[7..]);
+    if let Some(rest) = text.strip_prefix(b"REFUSED") {
+        return read_refusal(rest);
     }
-    if has_head(text, b"MARGIN") {
-        return read_report(&text[6..]);
-    }
-    None
+    read_report(text.strip_prefix(b"MARGIN")?)
 }

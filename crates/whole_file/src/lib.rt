@@ -1,7 +1,7 @@
 // Whether a file was opened and read whole.
 #![tactic(auto)]
 
-ghost use Rattle.std.specs.Prelude.{true, false, ◌≡◌, ◌<◌, length, take, IsNone, IsSome, IfSome, MatchOption};
+ghost use Rattle.std.specs.Prelude.{true, false, ◌≡◌, [], ◌<◌, length, take, IsNone, IsSome, IfSome, MatchOption};
 ghost use Rattle.std.specs.Io.KnownBytes.{Keeps, Consumes, IsAtEnd};
 ghost use Rattle.io.specs.Counts.{IsPrefixLen};
 ghost use Rattle.whole_file.specs.Left.{left};
@@ -38,8 +38,20 @@ pub fn read_full<R: Read>(file: &mut Option<R>, buffer: &mut [u8]) -> usize
 // A file was opened, and nothing is left behind what was read of it, or the buffer is full. Else it counts as not opened.
 pub fn was_read<R: Read>(file: &mut Option<R>, full: bool) -> bool
     ensures opened { (IsNone file.old → result ≡ false) × (IsSome file.old → full ≡ true → result ≡ true) }
+    ensures bytes { result ≡ true → Consumes (left R.remaining file.old) (left R.remaining file.new) [] }
     ensures end { full ≡ false → result ≡ true → IsAtEnd (left R.remaining file.new) }
 {
     let mut more = [0u8; 1];
     file.is_some() && (full || read_some(file, &mut more) == Some(0))
+}
+
+// The bytes of a file, over the front of the buffer, which those of a longer file fill; None where it was not opened or not read whole.
+pub fn read_whole<'a, R: Read>(file: &mut Option<R>, buffer: &'a mut [u8]) -> Option<&'a [u8]>
+    ensures opened { IsNone file.old → IsNone result }
+    ensures bytes { IfSome result (λ bytes. Consumes (left R.remaining file.old) (left R.remaining file.new) bytes.now) }
+    ensures end { IfSome result (λ bytes. length bytes.now < length buffer.old → IsAtEnd (left R.remaining file.new)) }
+{
+    let n = read_full(file, buffer);
+    let full = n == buffer.len();
+    was_read(file, full).then_some(&buffer[..n])
 }

@@ -5,6 +5,7 @@ use Rattle.model.specs.ManyAccounts.{answer_for, batch_of, memory_to, pair_of, r
 use Rattle.model.proofs.ManyAccounts.{AccountsRows, before-none, before_mono, before_more, memory-long, memory-none, memory_more, results_more, results_none, start_fits, start_more, start_most, start_none}
 use Rattle.numbers.specs.Put.{put, rest_is, rest_part}
 use Rattle.accounts.proofs.report_all.Goals as goal
+use Rattle.accounts.proofs.report_all.Goals.{After-words_in-at}
 
 -- the batch of account i lies inside, and is the part of so many words
 inside : (bs ns : List ℕ) (k i from : ℕ) → AccountsRows bs ns k → i < length ns → from ≡ words_before ns i → from + get_or ns i 0 ≤ length bs
@@ -56,33 +57,35 @@ slice_bounds-turn-start-in-loop-i c =
     let h : c.loop-i.at ≤ length c.loop-i.memory = omega (arith, c.loop-i.invariant.1, start_fits d b (length m) c.loop-i.i, left d m c.loop-i.memory b c.loop-i.i c.loop-i.invariant.3) in
     search rules
 
+-- the answer to account i is the single call's, and the words that it wrote
+answered : (c : After-words_in-at) → c.turn-answer.result ≡ answer_for c.args.day.now.words.now (batch_of c.args.batches.now c.args.lengths.now) (length c.args.memory.now) c.loop-i.i
+answered c =
+    let d = c.args.day.now.words.now in
+    let b = batch_of c.args.batches.now c.args.lengths.now in
+    let l = c.loop-i in
+    let own = part c.args.batches.now c.args.lengths.now l.i l.from l.invariant.0 in
+    let long = left d c.args.memory.now l.memory b l.i l.invariant.3 in
+    c.turn-answer.ensures.0 ∙ (λ j. answer d (own j) [] ((ap length (rest_is l.at l.memory) ∙ length-drop l.at l.memory) j)) ∙ (λ j. answer d (b l.i) [] (long j - l.invariant.1 j))
+
 pub overflow_add-at : goal.overflow_add-at
 overflow_add-at c =
     let d = c.args.day.now.words.now in
     let ns = c.args.lengths.now in
-    let bs = c.args.batches.now in
-    let b = batch_of bs ns in
+    let b = batch_of c.args.batches.now ns in
     let m = c.args.memory.now in
     let l = c.loop-i in
-    let own = part bs ns l.i l.from l.invariant.0 in
-    let long = left d m l.memory b l.i l.invariant.3 in
-    let answer_is : c.turn-answer.result ≡ answer_for d b (length m) l.i =
-    c.turn-answer.ensures.0 ∙ (λ j. answer d (own j) [] ((ap length (rest_is l.at l.memory) ∙ length-drop l.at l.memory) j)) ∙ (λ j. answer d (b l.i) [] (long j - l.invariant.1 j)) in
-    let words_are = c.words_in-at.ensures ∙ ap words_in answer_is in
+    let words_are = c.words_in-at.ensures ∙ ap words_in (answered (goal.at.overflow_add-at c).After-words_in-at) in
     record { fits = omega (arith, words_are, l.invariant.1, start_more d b (length m) l.i, start_most d b (length m) (l.i + 1), c.loop-i-test.true, c.requires.few) }
 
 pub loop-i-preserved : goal.loop-i-preserved
 loop-i-preserved c =
     let d = c.args.day.now.words.now in
     let ns = c.args.lengths.now in
-    let bs = c.args.batches.now in
-    let b = batch_of bs ns in
+    let b = batch_of c.args.batches.now ns in
     let m = c.args.memory.now in
     let l = c.loop-i in
-    let own = part bs ns l.i l.from l.invariant.0 in
-    let long = left d m l.memory b l.i l.invariant.3 in
-    let answer_is : c.turn-answer.result ≡ answer_for d b (length m) l.i =
-    c.turn-answer.ensures.0 ∙ (λ j. answer d (own j) [] ((ap length (rest_is l.at l.memory) ∙ length-drop l.at l.memory) j)) ∙ (λ j. answer d (b l.i) [] (long j - l.invariant.1 j)) in
+    let answer_is = answered (goal.at.loop-i-preserved c).After-words_in-at in
+    let own = part c.args.batches.now ns l.i l.from l.invariant.0 in
     let rs = c.args.results.now in (
       ap (λ (f : ℕ). f + get_or ns l.i 0) l.invariant.0 ∙ sym (before_more ns l.i),
       (λ j. l.invariant.1 j + (c.words_in-at.ensures ∙ ap words_in answer_is) j) ∙ sym (start_more d b (length m) l.i),
