@@ -1,18 +1,21 @@
 -- A batch as a header and its records: an accepted one is nothing else, and any order of the records is a reordering.
-use Rattle.std.specs.Prelude.{◌≡◌, refl, ℕ, zero, suc, ◌+◌, ◌*◌, ◌<◌, ◌≤◌, length, get_or, drop}
-use Rattle.std.proofs.Common.{sym, ap, ◌∙◌, arith, length-append, drop-cons, get_or-append-add}
+use Rattle.std.specs.Prelude.{◌≡◌, refl, false, not, ℕ, zero, suc, ◌+◌, ◌*◌, ◌<◌, ◌≤◌, length, get_or, drop}
+use Rattle.std.proofs.Common.{sym, ap, ◌∙◌, arith, length-append, drop-cons, get_or-append-add, eq-eqb, ne_eqb, le-ltb}
 use Rattle.std.proofs.Math.Logic.{∥∥₁_elim}
 use mathlib.Core.List.{List, [], ◌∷◌, ◌++◌, append_assoc, Permᴰ, Perm}
 use Rattle.std.proofs.Math.Nat.{ℕ_set}
 use Rattle.std.proofs.Math.Seq.{drop-length}
+use Rattle.numbers.specs.Chosen.{joined, Each, none, more, joined_length}
 use Rattle.numbers.specs.Table.{tabulate, tabulate_ext}
-use Rattle.model.specs.Words.{payload}
-use Rattle.model.specs.Batch.{batch_header, record_count, record_words}
+use Rattle.model.specs.Limits.{most_records}
+use Rattle.model.specs.Words.{kind, payload, word}
+use Rattle.model.specs.Batch.{batch_header, record_count, record_words, batch_words}
+use Rattle.model.specs.BatchChecks.{row20, row21}
 use Rattle.model.specs.Calls.{Accepted}
 use Rattle.model.specs.Locality.{record_at, records, Reordered}
 use Rattle.model.proofs.Limits.{batch_length}
 use Rattle.model.proofs.Accepted.{batch_rows}
-use Rattle.corollaries.specs.Counted.{joined, Each, none, more}
+use Rattle.model.proofs.WordsBack.{payload-word}
 
 -- the six words of b from word j on
 abbrev six_at : List ℕ → ℕ → List ℕ
@@ -47,10 +50,14 @@ sixes (suc n) j b e =
     ∙ ap (λ (l : List ℕ). six_at b j ++ l) (sixes n (j + record_words) b (omega arith))
     ∙ sym (ap (λ (i : ℕ). drop i b) o ∙ six_off b j (omega arith))
 
+-- a batch whose length is that of its records
+pub body_is : (b : List ℕ) → length b ≡ batch_words (record_count b) → drop 1 b ≡ joined (records b)
+body_is b e = sym (sixes (record_count b) 1 b e)
+
 pub batch_is : (d b x : List ℕ) → Accepted d b x → b ≡ batch_header b ∷ joined (records b)
 batch_is d b x a =
     let e = batch_length d b (batch_rows d b x a).checks in
-    drop-cons b 0 0 (omega arith) ∙ ap (λ (l : List ℕ). batch_header b ∷ l) (sym (sixes (record_count b) 1 b e))
+    drop-cons b 0 0 (omega arith) ∙ ap (λ (l : List ℕ). batch_header b ∷ l) (body_is b e)
 
 -- ---- a batch made of a header and records of six words each
 
@@ -85,6 +92,17 @@ cut (more {b = b} {l = l} h e) p =
 pub records_back : (h : ℕ) (l : List (List ℕ)) → Each record_words l → payload h ≡ length l → records (h ∷ joined l) ≡ l
 records_back h l e c = ap (λ (n : ℕ). tabulate n (record_at (h ∷ joined l))) c ∙ cut e (h ∷ [])
 
+-- it passes row 20 where its header counts few, and row 21 where it counts the records
+pub made_20 : (n : ℕ) (l : List ℕ) → n ≤ most_records → row20 (word 1 n ∷ l) ≡ false
+unfolding row20
+made_20 n l h =
+    let k : kind (word 1 n) ≡ 1 = omega arith in
+    rw (ne_eqb (length (word 1 n ∷ l)) 0 (λ z. omega arith), k, payload-word 1 n (omega arith), le-ltb most_records n h)
+
+pub made_21 : (h : ℕ) (l : List (List ℕ)) → Each record_words l → payload h ≡ length l → row21 (h ∷ joined l) ≡ false
+unfolding row21
+made_21 h l e c = ap not (eq-eqb (length (h ∷ joined l)) (batch_words (payload h)) (omega (arith, joined_length e)))
+
 -- ---- another order
 
 length_permᴰ : {l₁ l₂ : List (List ℕ)} → Permᴰ l₁ l₂ → length l₁ ≡ length l₂
@@ -96,11 +114,6 @@ length_permᴰ (Permᴰ.trans p q) = length_permᴰ p ∙ length_permᴰ q
 length-perm : (l₁ l₂ : List (List ℕ)) → Perm l₁ l₂ → length l₁ ≡ length l₂
 length-perm l₁ l₂ p = ∥∥₁_elim p (ℕ_set (length l₁) (length l₂)) length_permᴰ
 
-six-long : {l : List (List ℕ)} → Each record_words l → length (joined l) ≡ record_words * length l
-unfolding joined
-six-long none = refl
-six-long (more {b = b} {l = l} h e) = omega (arith, length-append b (joined l), six-long e)
-
 -- the records l₁ behind a header that counts them, and the same records in the order l₂
 pub reordered : (h : ℕ) (l₁ l₂ : List (List ℕ)) → Each record_words l₁ → Each record_words l₂ → payload h ≡ length l₁ → Perm l₁ l₂
     → Reordered (h ∷ joined l₁) (h ∷ joined l₂)
@@ -108,6 +121,6 @@ reordered h l₁ l₂ e₁ e₂ c p =
     let n = length-perm l₁ l₂ p in
     record {
       header = refl;
-      long = omega (arith, six-long e₁, six-long e₂);
+      long = omega (arith, joined_length e₁, joined_length e₂);
       same = rw (records_back h l₁ e₁ c, records_back h l₂ e₂ (c ∙ n)) p;
     }

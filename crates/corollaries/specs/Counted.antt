@@ -8,7 +8,8 @@ use Prim.Native.Nat.{ℕ, zero, suc, ◌+◌}
 use native.Mathlib.Omega.{arith}
 use Rattle.std.specs.Int.Count.{ones}
 use Rattle.std.proofs.Math.ListN.{length-append}
-use Rattle.numbers.specs.Maps.{map_below, bit, blocks, ones-suc}
+use Rattle.numbers.specs.Maps.{map_below, bit, ones-suc}
+use Rattle.numbers.specs.Chosen.{joined, Each, chosen, each_append, joined-append, chosen-each, chosen-joined}
 use Rattle.model.specs.Words.{word}
 use Rattle.model.specs.Steps.Lines.{has_line}
 use Rattle.model.specs.Report.{words_of_amounts, book_map, line_words, book_lines, line_count, totals, report_words, words_a_line}
@@ -16,59 +17,17 @@ use Rattle.model.specs.Reading.{count_in}
 use Rattle.model.proofs.Read.{line-length, count_read_lem}
 use Rattle.model.specs.Limits.{group_count}
 
--- blocks one behind the other
-unfoldable pub joined : List (List ℕ) → List ℕ
-joined [] = []
-joined (b ∷ l) = b ++ joined l
-
--- every block has k words
-pub data Each (k : ℕ) : List (List ℕ) → Type 0 where
-  none : Each k []
-  more : {b : List ℕ} {l : List (List ℕ)} → length b ≡ k → Each k l → Each k (b ∷ l)
-
-each_append : {k : ℕ} {l m : List (List ℕ)} → Each k l → Each k m → Each k (l ++ m)
-each_append none q = q
-each_append (more h p) q = more h (each_append p q)
-
-joined-append : (l m : List (List ℕ)) → joined (l ++ m) ≡ joined l ++ joined m
-unfolding joined
-joined-append [] m = refl
-joined-append (b ∷ l) m = ap (λ (x : List ℕ). b ++ x) (joined-append l m) ∙ sym (append_assoc b (joined l) (joined m))
-
--- the blocks of the numbers below n at which t holds
-module _ (t : ℕ → Bool) (L : ℕ → List ℕ) where
-  unfoldable pub chosen : ℕ → List (List ℕ)
-  chosen zero = []
-  chosen (suc i) = chosen i ++ cond (t i) (L i ∷ []) []
-
-  one_joined : (b : Bool) (i : ℕ) → joined (cond b (L i ∷ []) []) ≡ cond b (L i) []
-  unfolding joined
-  one_joined true i = append-nil (L i)
-  one_joined false i = refl
-
-  chosen-joined : (n : ℕ) → joined (chosen n) ≡ blocks t L n
-  unfolding chosen blocks joined
-  chosen-joined zero = refl
-  chosen-joined (suc n) = joined-append (chosen n) (cond (t n) (L n ∷ []) []) ∙ (λ j. chosen-joined n j ++ one_joined (t n) n j)
-
+-- the members chosen are as many as the ones of the map of the numbers they are chosen by
+module _ {A : Type 0} (t : ℕ → Bool) (L : ℕ → A) where
   one_counted : (b : Bool) (i : ℕ) → length (cond b (L i ∷ []) []) ≡ bit b
   one_counted true i = refl
   one_counted false i = refl
 
-  chosen-ones : (n : ℕ) → length (chosen n) ≡ ones (map_below t n)
+  chosen-ones : (n : ℕ) → length (chosen t L n) ≡ ones (map_below t n)
   unfolding chosen map_below ones
   chosen-ones zero = refl
   chosen-ones (suc n) =
-      omega (arith, length-append (chosen n) (cond (t n) (L n ∷ []) []), one_counted (t n) n, chosen-ones n, ones-suc t n)
-
-  one_each_lem : (k : ℕ) (b : Bool) (i : ℕ) → length (L i) ≡ k → Each k (cond b (L i ∷ []) [])
-  one_each_lem k true i h = more h none
-  one_each_lem k false i h = none
-
-  chosen-each : (k : ℕ) → ((i : ℕ) → length (L i) ≡ k) → (n : ℕ) → Each k (chosen n)
-  unfolding chosen
-  chosen-each k h zero = none
-  chosen-each k h (suc n) = each_append (chosen-each k h n) (one_each_lem k (t n) n (h n))
+      omega (arith, length-append (chosen t L n) (cond (t n) (L n ∷ []) []), one_counted (t n) n, chosen-ones n, ones-suc t n)
 
 -- ---- the report
 

@@ -6,6 +6,7 @@ use mathlib.Core.List.{List, [], ◌∷◌, ◌++◌, append_assoc}
 use Rattle.std.specs.Int.Count.{ones}
 use Rattle.std.proofs.Math.ListN.{get_or, drop}
 use Rattle.numbers.specs.Maps.{bit, bit_one}
+use Rattle.numbers.specs.Chosen.{joined, Each, chosen}
 use Rattle.model.specs.Words.{word}
 use Rattle.model.specs.Netting.{net, dvp}
 use Rattle.model.specs.Steps.Lines.{has_line}
@@ -14,7 +15,7 @@ use Rattle.model.specs.Calls.{verdict, Accepted, net_after, answer, needed, memo
 use Rattle.model.specs.Reading.{count_in, map_in, stands_in, line_in}
 use Rattle.model.proofs.Length.{nine_words}
 use Rattle.model.proofs.Read.{count_read_lem, map_read, stands_read, line_read}
-use Rattle.corollaries.specs.Counted.{joined, Each, chosen, book_blocks, line_blocks, blocks_are_lines, blocks-each, ones_are_blocks}
+use Rattle.corollaries.specs.Counted.{book_blocks, line_blocks, blocks_are_lines, blocks-each, ones_are_blocks}
 use Rattle.model.proofs.Outcome.{outcome-passed, memory_is}
 use Rattle.model.specs.Limits.{group_count}
 

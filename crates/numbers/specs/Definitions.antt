@@ -93,6 +93,16 @@ module _ {A : Type 0} where
   unfoldable pub put : ℕ → List A → List A → List A
   put at w l = take at l ++ (w ++ drop (at + length w) l)
 
+  -- lists one behind the other (laws: Chosen)
+  unfoldable pub joined : List (List A) → List A
+  joined [] = []
+  joined (b ∷ l) = b ++ joined l
+
+  -- of f 0, .., f (n − 1) those whose number passes a test (laws: Chosen)
+  unfoldable pub chosen : (ℕ → Bool) → (ℕ → A) → ℕ → List A
+  chosen t f zero = []
+  chosen t f (suc n) = chosen t f n ++ cond (t n) (f n ∷ []) []
+
 module _ {A : Type 0} (t : A → Bool) where
   -- the members that pass a test (laws: Lists)
   unfoldable pub keep : List A → List A

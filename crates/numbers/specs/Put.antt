@@ -1,5 +1,5 @@
 -- Laws of what writing leaves: `put at w l` is l with w written over it from place `at` on. Each function that writes says what it wrote by this.
-use Rattle.std.specs.Prelude.{◌≡◌, ℕ, ◌+◌, ◌-◌, ◌≤◌, ◌<◌, get_or, set}
+use Rattle.std.specs.Prelude.{◌≡◌, ℕ, suc, ◌+◌, ◌-◌, ◌≤◌, ◌<◌, get_or, set}
 use Rattle.std.proofs.Math.Path.{sym, ap}
 use Rattle.std.proofs.Common.{◌∙◌, le_of_eq, add-one, length-set, drop_of_length-le, take-suc, take_all}
 use mathlib.Core.List.{List, [], ◌∷◌, ◌++◌, append_assoc, append-nil}
@@ -102,3 +102,9 @@ module _ {A : Type 0} where
       ap (λ (m : ℕ). take at l ++ (last ++ drop m (drop at l))) n
       ∙ ap (λ (x : List A). take at l ++ (x ++ drop (length w) (drop at l))) e
       ∙ ap (λ (r : List A). take at l ++ (w ++ r)) (drop-drop (length w) at l)
+
+  -- a run written behind the first element, and then that one: all over the front
+  pub put_head : (a : A) (w l : List A) → 0 < length l → set (put 1 w l) 0 a ≡ (a ∷ w) ++ drop (length (a ∷ w)) l
+  unfolding put
+  put_head a w [] h = absurd (omega arith)
+  put_head a w (b ∷ l) h = let e : 1 + length w ≡ suc (length w) = omega arith in ap (λ (n : ℕ). a ∷ (w ++ drop n (b ∷ l))) e
