@@ -29,13 +29,20 @@ pub enum Holding {
     Exercised = 1,
 }
 
+// The amount of a key in a table, 0 past its end.
+pub fn amount_at(table: &[i64], key: usize) -> i64
+    ensures { result ≡ get_or table.now key (pos 0) }
+{
+    table.get(key).copied().unwrap_or(0)
+}
+
 // The amount of a position of series s in a table, 0 past its end.
 pub fn position_amount(table: &[i64], book: Book, holding: Holding, s: usize) -> i64
     requires { s < 2 * places }
     ensures { result ≡ get_or table.now (position_of (book_number book) (holding_number holding) s) (pos 0) }
 {
-    table
-        .get(s + PLACES * holding as usize + 2 * PLACES * book as usize)
-        .copied()
-        .unwrap_or(0)
+    amount_at(
+        table,
+        s + PLACES * holding as usize + 2 * PLACES * book as usize,
+    )
 }

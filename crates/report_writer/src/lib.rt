@@ -15,10 +15,11 @@ use books::book::write_book;
 use books::maps::book_map;
 use holdings::CoveredHoldings;
 use line_words::{FRAME_WORDS, LINE_WORDS, write_headed_at};
-use model::{Check, ReportFault};
+use model::Check;
 use positions::Book;
 use presence::BookTables;
 use report_head::{Maps, write_maps};
+use rows::check_room;
 use words::Kind;
 
 // The report over the front of a memory that is long enough.
@@ -64,10 +65,7 @@ pub fn report_accepted(of: &CoveredHoldings, memory: &mut [u32]) -> Result<usize
         fail: map_of(of, Book::Fail),
     };
     let count = maps.line_count();
-    let needed = FRAME_WORDS + LINE_WORDS * count as usize;
-    if memory.len() < needed {
-        return Err(Check::Report(ReportFault::TooShort, needed));
-    }
+    let needed = check_room(FRAME_WORDS + LINE_WORDS * count as usize, memory.len())?;
     write_report(of, maps, count, memory);
     Ok(needed)
 }

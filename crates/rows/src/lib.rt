@@ -1,11 +1,12 @@
-// A row over records, words or deposits, by the first of them that it found.
+// A row over records, words or deposits, by the first of them that it found; and row 40.
 #![tactic(auto)]
 
 ghost use Rattle.std.specs.Prelude.{◌≡◌, ℕ, ◌<◌, Bool};
 ghost use Rattle.model.specs.declared.Check.{Check as CheckOf};
+ghost use Rattle.model.specs.Calls.{room_answer};
 ghost use Rattle.model.specs.Rows.{found_row, record_row};
 
-use model::Check;
+use model::{Check, ReportFault};
 
 // Refused at that place, by the check that `refusal` makes of it; passed where none was found.
 pub fn check_row<F: Fn(usize) -> Check>(found: Option<usize>, refusal: F) -> Result<(), Check>
@@ -34,4 +35,14 @@ pub fn check_records<T: Fn(usize) -> bool, F: Fn(usize) -> Check>(
         { test(i) },
     );
     check_row(found, refusal)
+}
+
+// Row 40: a memory with room for so many words is shorter than what is to be written. Else how many words that is.
+pub fn check_room(needed: usize, room: usize) -> Result<usize, Check>
+    ensures { result ≡ room_answer needed room }
+{
+    if room < needed {
+        return Err(Check::Report(ReportFault::TooShort, needed));
+    }
+    Ok(needed)
 }
