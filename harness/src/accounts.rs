@@ -123,7 +123,7 @@ fn series_word(day: &[u32], s: usize, i: usize) -> u32 {
     day[series_at(counts(day).0, s) + i]
 }
 
-fn type_of(day: &[u32], s: usize) -> u32 {
+pub(crate) fn type_of(day: &[u32], s: usize) -> u32 {
     series_word(day, s, 0) >> 19 & 15
 }
 
@@ -155,40 +155,44 @@ pub fn amount_words(negative: bool, size: u64) -> [u32; 3] {
     ]
 }
 
+/// A record of series s that fits the day file.
+pub(crate) fn record(rng: &mut Rng, day: &[u32], s: usize) -> [u32; 6] {
+    let t = type_of(day, s);
+    let multiplier = u64::from(series_word(day, s, 1) & 0x1fff_ffff);
+    let exercised = (t == 2 || t == 3) && rng.once_in(3);
+    let security = t >= 4;
+    let fail = security && rng.once_in(3);
+    let most = 10_000_000 / multiplier;
+    let size = rng.pick(&[0, 3, most / 200 + 1, most / 200 + 1, most]);
+    let (long, short) = match rng.below(4) {
+        0 => (rng.below(size + 1), 0),
+        1 => (0, rng.below(size + 1)),
+        2 => (size, size),
+        _ => (rng.below(size / 2 + 1), rng.below(size / 2 + 1)),
+    };
+    let dvp = if security && !rng.once_in(3) {
+        let limit = rng.pick(&[10, 1_000_000, 90_000_000_000, 5_000_000_000_000_000]);
+        if rng.once_in(8) {
+            limit
+        } else {
+            rng.below(limit + 1)
+        }
+    } else {
+        0
+    };
+    let key = s as u32 | u32::from(exercised) << 8 | u32::from(fail) << 9;
+    let [high, middle, low] = amount_words(dvp > 0 && rng.once_in(2), dvp);
+    [word(2, key), word(4, long as u32), word(4, short as u32), high, middle, low]
+}
+
 /// Records that fit the day file. Positions repeat; nets stay small, or grow to the limit of row 30.
 pub fn batch(rng: &mut Rng, day: &[u32], records: usize) -> Vec<u32> {
-    let series = counts(day).1;
+    let series = counts(day).1 as u64;
     let records = if series == 0 { 0 } else { records };
     let mut out = vec![word(1, records as u32)];
     for _ in 0..records {
-        let s = rng.below(series as u64) as usize;
-        let t = type_of(day, s);
-        let multiplier = u64::from(series_word(day, s, 1) & 0x1fff_ffff);
-        let exercised = (t == 2 || t == 3) && rng.once_in(3);
-        let security = t >= 4;
-        let fail = security && rng.once_in(3);
-        let most = 10_000_000 / multiplier;
-        let size = rng.pick(&[0, 3, most / 200 + 1, most / 200 + 1, most]);
-        let (long, short) = match rng.below(4) {
-            0 => (rng.below(size + 1), 0),
-            1 => (0, rng.below(size + 1)),
-            2 => (size, size),
-            _ => (rng.below(size / 2 + 1), rng.below(size / 2 + 1)),
-        };
-        let dvp = if security && !rng.once_in(3) {
-            let limit = rng.pick(&[10, 1_000_000, 90_000_000_000, 5_000_000_000_000_000]);
-            if rng.once_in(8) {
-                limit
-            } else {
-                rng.below(limit + 1)
-            }
-        } else {
-            0
-        };
-        out.push(word(2, s as u32 | u32::from(exercised) << 8 | u32::from(fail) << 9));
-        out.push(word(4, long as u32));
-        out.push(word(4, short as u32));
-        out.extend(amount_words(dvp > 0 && rng.once_in(2), dvp));
+        let s = rng.below(series) as usize;
+        out.extend(record(rng, day, s));
     }
     out
 }
@@ -302,20 +306,18 @@ pub fn extreme(rng: &mut Rng) -> Account {
     fields::account(&classes, &series, &records)
 }
 
-/// 256 shares of two classes, closing at this price, the highest at every point, a record each.
-fn highest(class: Class, closing: u32, record: impl Fn(u32) -> Record) -> Account {
-    let series = |i: u32| Series {
-        class_number: i / 128,
-        series_type: EQUITY,
-        serial: i % 128,
-        multiplier: 1,
-        closing,
-        theoretical: [HIGHEST_PRICE; 10],
-        ..Series::default()
-    };
+/// 256 shares with these prices and this multiplier, of two classes, and these records.
+pub fn shares(class: Class, share: Series, records: &[Record]) -> Account {
+    let series = |i: u32| Series { class_number: i / 128, series_type: EQUITY, serial: i % 128, ..share };
     let series: Vec<Series> = (0..256).map(series).collect();
+    fields::account(&[class, Class { number: 1, ..class }], &series, records)
+}
+
+/// The shares closing at this price, the highest at every point, a record each.
+fn highest(class: Class, closing: u32, record: impl Fn(u32) -> Record) -> Account {
+    let share = Series { multiplier: 1, closing, theoretical: [HIGHEST_PRICE; 10], ..Series::default() };
     let records: Vec<Record> = (0..256).map(|series| Record { series, ..record(series) }).collect();
-    fields::account(&[class, Class { number: 1, ..class }], &series, &records)
+    shares(class, share, &records)
 }
 
 /// 256 shares sold at the highest price, rate and DVP amount: a margin of 256 × 1.5·10^16.

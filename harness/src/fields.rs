@@ -72,7 +72,7 @@ fn series_words(s: &Series) -> Vec<u32> {
     out
 }
 
-fn record_words(r: &Record) -> Vec<u32> {
+pub fn record_words(r: &Record) -> Vec<u32> {
     let key = r.series | u32::from(r.exercised) << 8 | u32::from(r.fail) << 9;
     let mut out = vec![word(2, key), word(4, r.long), word(4, r.short)];
     out.extend(amount_words(r.dvp < 0, r.dvp.unsigned_abs()));

@@ -1,4 +1,4 @@
-//! The day file's layout and the unit of its offsets, for all that reads or makes one here.
+//! The files' layout and the unit of the day file's offsets, for all that reads or makes one here.
 
 pub const CLASS_WORDS: usize = 20;
 pub const SERIES_WORDS: usize = 15;
@@ -9,6 +9,10 @@ pub const WHOLE_OFFSET: u32 = 10_000;
 
 /// The words of the longest day file.
 pub const LONGEST_DAY: usize = series_at(64, 256);
+
+/// The most records of a batch, and the words of the longest one.
+pub const MOST_RECORDS: usize = 256;
+pub const LONGEST_BATCH: usize = 1 + 6 * MOST_RECORDS;
 
 /// Where class c stands.
 pub const fn class_at(c: usize) -> usize {

@@ -11,6 +11,7 @@ pub mod places;
 pub mod plain;
 pub mod reading;
 pub mod reckoner;
+pub mod records;
 pub mod requests;
 pub mod rng;
 pub mod samples;

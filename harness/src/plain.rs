@@ -1,8 +1,13 @@
 //! The same work in straight 64-bit Rust: the baseline of the benchmark. Its answers are held to the reckoner's in the tests.
-use crate::layout::{class_at, series_at, CLASS_WORDS, LONGEST_DAY, OFFSET, SERIES_WORDS, WHOLE_OFFSET};
+//! The checks that its calls share are marked to be inlined into each: compiled once for all they cost the report some hundredths more.
+use crate::layout::{
+    class_at, series_at, CLASS_WORDS, LONGEST_BATCH, LONGEST_DAY, MOST_RECORDS, OFFSET, SERIES_WORDS, WHOLE_OFFSET,
+};
 
 /// Entries of a table of nets, one a position.
 pub const NETS: usize = 1024;
+
+const MOST_DVP: i64 = 5_000_000_000_000_000;
 
 fn kind(w: u32) -> u32 {
     w >> 29
@@ -12,8 +17,22 @@ fn payload(w: u32) -> u32 {
     w & 0x1fff_ffff
 }
 
+/// A refusal's number and place.
+type Refused = (u64, usize);
+
 fn answer(number: u64, value: usize) -> u64 {
     number << 32 | value as u64
+}
+
+fn packed(result: Result<usize, Refused>) -> u64 {
+    match result {
+        Ok(value) => answer(0, value),
+        Err((number, place)) => answer(number, place),
+    }
+}
+
+fn pass(refused: Option<Refused>) -> Result<(), Refused> {
+    refused.map_or(Ok(()), Err)
 }
 
 fn bad(w: u32, k: u32, limit: u32) -> bool {
@@ -63,7 +82,8 @@ impl Day<'_> {
         series.filter(|&s| self.series_type(s) == 1)
     }
 
-    fn check(&self) -> Option<(u64, usize)> {
+    #[inline]
+    fn check(&self) -> Option<Refused> {
         const PRICE: u32 = 500_000_000;
         for c in 0..self.classes {
             let w = &self.words[class_at(c)..][..CLASS_WORDS];
@@ -146,7 +166,7 @@ fn dvp(w: &[u32]) -> i64 {
 }
 
 fn bad_dvp(w: &[u32]) -> bool {
-    payload(w[3]) >> 5 & 0x7f_ffff != 0 || dvp(w).abs() > 5_000_000_000_000_000
+    payload(w[3]) >> 5 & 0x7f_ffff != 0 || dvp(w).abs() > MOST_DVP
 }
 
 fn minus_zero(w: &[u32]) -> bool {
@@ -154,7 +174,7 @@ fn minus_zero(w: &[u32]) -> bool {
 }
 
 /// Rows 22, 27 and 28, from the first record that one of them refuses on.
-fn check_words(batch: &[u32], records: usize) -> Option<(u64, usize)> {
+fn check_words(batch: &[u32], records: usize) -> Option<Refused> {
     let record = |r: usize| &batch[1 + 6 * r..7 + 6 * r];
     let word = |r: usize, j: usize| 1 + 6 * r + j;
     let first = (0..records).find(|&r| bad_record(record(r)))?;
@@ -173,7 +193,9 @@ fn check_words(batch: &[u32], records: usize) -> Option<(u64, usize)> {
     (first..records).find(|&r| minus_zero(record(r))).map(|r| (28, word(r, 3)))
 }
 
-fn check_batch(day: &Day, batch: &[u32], records: usize) -> Option<(u64, usize)> {
+/// Rows 22 to 28.
+#[inline]
+fn check_batch(day: &Day, batch: &[u32], records: usize) -> Option<Refused> {
     let record = |r: usize| &batch[1 + 6 * r..7 + 6 * r];
     if let Some(refused) = check_words(batch, records) {
         return Some(refused);
@@ -221,7 +243,7 @@ pub fn net_pairs(batch: &[u32], table: &mut [[i64; 2]; NETS]) {
 type Starts = [usize; 65];
 
 /// Rows 50 and 51.
-fn check_deposits(day: &Day, starts: &Starts, deposits: &[u32]) -> Option<(u64, usize)> {
+fn check_deposits(day: &Day, starts: &Starts, deposits: &[u32]) -> Option<Refused> {
     if deposits.len() % 2 != 0 {
         return Some((50, 0));
     }
@@ -352,39 +374,62 @@ fn put_amount(out: &mut [u32], z: i64) {
     out[2] = 6 << 29 | (size & 0x1fff_ffff) as u32;
 }
 
-/// The call over words: number × 2^32 + value.
-pub fn call_words(day: &[u32], batch: &[u32], deposits: &[u32], memory: &mut [u32]) -> u64 {
-    let header = day.first().copied().unwrap_or(0);
+/// Rows 10 to 17.
+#[inline]
+fn read_day(words: &[u32]) -> Result<Day<'_>, Refused> {
+    let header = words.first().copied().unwrap_or(0);
     let (classes, series) = ((header & 127) as usize, (header >> 7 & 511) as usize);
     if kind(header) != 1 || payload(header) >> 16 != 0 || classes > 64 || series > 256 {
-        return answer(10, 0);
+        return Err((10, 0));
     }
-    if day.len() != series_at(classes, series) {
-        return answer(11, 0);
+    if words.len() != series_at(classes, series) {
+        return Err((11, 0));
     }
-    let day = Day { words: day, classes, series };
-    if let Some((number, place)) = day.check() {
-        return answer(number, place);
-    }
+    let day = Day { words, classes, series };
+    pass(day.check())?;
+    Ok(day)
+}
+
+/// Rows 20 and 21: the number of records.
+fn record_count(batch: &[u32]) -> Result<usize, Refused> {
     let header = batch.first().copied().unwrap_or(0);
     let records = payload(header) as usize;
-    if kind(header) != 1 || records > 256 {
-        return answer(20, 0);
+    if kind(header) != 1 || records > MOST_RECORDS {
+        return Err((20, 0));
     }
     if batch.len() != 1 + 6 * records {
-        return answer(21, 0);
+        return Err((21, 0));
     }
-    if let Some((number, place)) = check_batch(&day, batch, records) {
-        return answer(number, place);
-    }
-    let (mut nets, mut dvps) = ([0i64; NETS], [0i64; NETS]);
-    net(batch, &mut nets, &mut dvps);
+    Ok(records)
+}
+
+/// Rows 22 to 30 over so many records; the tables, zeros before, get the nets and DVPs.
+#[inline]
+fn check_and_net(
+    day: &Day,
+    batch: &[u32],
+    records: usize,
+    nets: &mut [i64; NETS],
+    dvps: &mut [i64; NETS],
+) -> Result<(), Refused> {
+    pass(check_batch(day, batch, records))?;
+    net(batch, nets, dvps);
     for r in 0..records {
         let k = (batch[1 + 6 * r] & 1023) as usize;
         if nets[k].abs() * i64::from(day.one(k & 255, 1)) > 10_000_000 {
-            return answer(30, r);
+            return Err((30, r));
         }
     }
+    Ok(())
+}
+
+/// The report's length, or the refusal.
+fn report(day: &[u32], batch: &[u32], deposits: &[u32], memory: &mut [u32]) -> Result<usize, Refused> {
+    let day = read_day(day)?;
+    let (classes, series) = (day.classes, day.series);
+    let records = record_count(batch)?;
+    let (mut nets, mut dvps) = ([0i64; NETS], [0i64; NETS]);
+    check_and_net(&day, batch, records, &mut nets, &mut dvps)?;
     let mut starts: Starts = [series; 65];
     let mut s = 0;
     for c in 0..classes {
@@ -393,9 +438,7 @@ pub fn call_words(day: &[u32], batch: &[u32], deposits: &[u32], memory: &mut [u3
         }
         starts[c] = s;
     }
-    if let Some((number, place)) = check_deposits(&day, &starts, deposits) {
-        return answer(number, place);
-    }
+    pass(check_deposits(&day, &starts, deposits))?;
     let mut maps = [0u32; 2];
     for (book, map) in maps.iter_mut().enumerate() {
         for c in 0..classes {
@@ -411,7 +454,7 @@ pub fn call_words(day: &[u32], batch: &[u32], deposits: &[u32], memory: &mut [u3
     let lines = (maps[0].count_ones() + maps[1].count_ones()) as usize;
     let needed = 13 + 19 * lines;
     if memory.len() < needed {
-        return answer(40, needed);
+        return Err((40, needed));
     }
     cover(&day, &starts, deposits, &mut nets);
     memory[0] = 1 << 29 | lines as u32;
@@ -447,7 +490,12 @@ pub fn call_words(day: &[u32], batch: &[u32], deposits: &[u32], memory: &mut [u3
     for (i, z) in totals.into_iter().enumerate() {
         put_amount(&mut memory[at + 1 + 3 * i..], z);
     }
-    answer(0, needed)
+    Ok(needed)
+}
+
+/// The call over words: number × 2^32 + value.
+pub fn call_words(day: &[u32], batch: &[u32], deposits: &[u32], memory: &mut [u32]) -> u64 {
+    packed(report(day, batch, deposits, memory))
 }
 
 /// The byte call, words low byte first.
@@ -455,11 +503,11 @@ pub fn call(day: &[u8], batch: &[u8], memory: &mut [u8]) -> u64 {
     if day.len() % 4 != 0 || day.len() > 4 * LONGEST_DAY {
         return answer(1, 0);
     }
-    if batch.len() % 4 != 0 || batch.len() > 4 * 1537 {
+    if batch.len() % 4 != 0 || batch.len() > 4 * LONGEST_BATCH {
         return answer(2, 0);
     }
     let mut day_words = [0u32; LONGEST_DAY];
-    let mut batch_words = [0u32; 1537];
+    let mut batch_words = [0u32; LONGEST_BATCH];
     let mut report = [0u32; 1115];
     let decode = |bytes: &[u8], words: &mut [u32]| {
         for (w, b) in words.iter_mut().zip(bytes.chunks_exact(4)) {

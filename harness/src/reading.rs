@@ -5,7 +5,8 @@ fn plain(w: u32, kind: u32) -> Option<u32> {
     (w >> 29 == kind).then_some(w & 0x1fff_ffff)
 }
 
-fn amount(w: &[u32]) -> Option<i128> {
+/// None where the three words are no amount.
+pub fn amount(w: &[u32]) -> Option<i128> {
     let (first, middle, low) = (plain(w[0], 5)?, plain(w[1], 6)?, plain(w[2], 6)?);
     let size = i128::from(first & 31) << 58 | i128::from(middle) << 29 | i128::from(low);
     let negative = first >> 28 == 1;

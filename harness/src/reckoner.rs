@@ -1,5 +1,7 @@
 //! The scope as plain Rust: records and maps, 128-bit amounts, nothing shared with the unit.
-use crate::layout::{class_at, series_at, CLASS_WORDS, LONGEST_DAY, OFFSET, SERIES_WORDS, WHOLE_OFFSET};
+use crate::layout::{
+    class_at, series_at, CLASS_WORDS, LONGEST_BATCH, LONGEST_DAY, MOST_RECORDS, OFFSET, SERIES_WORDS, WHOLE_OFFSET,
+};
 use std::cmp::Reverse;
 use std::collections::BTreeMap;
 
@@ -10,7 +12,7 @@ pub struct Refusal {
     pub place: usize,
 }
 
-fn refuse<T>(number: u32, place: usize) -> Result<T, Refusal> {
+pub(crate) fn refuse<T>(number: u32, place: usize) -> Result<T, Refusal> {
     Err(Refusal { number, place })
 }
 
@@ -83,6 +85,9 @@ fn is_security(t: u32) -> bool {
 }
 
 const PRICE: u32 = 500_000_000;
+
+/// The largest magnitude of a DVP amount.
+pub const MOST_DVP: i128 = 5_000_000_000_000_000;
 
 fn class_record(w: &[u32]) -> Option<Class> {
     if kind(w[0]) != 2 || payload(w[0]) >> 11 != 0 || payload(w[0]) & 31 > 28 {
@@ -228,7 +233,7 @@ fn check_words(batch: &[u32]) -> Result<(), Refusal> {
         let spare = payload(w[3]) >> 5 & 0x7f_ffff != 0;
         let key = payload(w[0]) >> 10 != 0;
         let [long, short] = [w[1], w[2]].map(|q| payload(q) > 10_000_000);
-        let amount = spare || dvp(w).1 > 5_000_000_000_000_000;
+        let amount = spare || dvp(w).1 > MOST_DVP;
         if let Some(j) = [key, long, short, amount].iter().position(|&bad| bad) {
             return refuse(27, at + j);
         }
@@ -257,16 +262,21 @@ fn batch_record(w: &[u32]) -> Record {
     }
 }
 
-/// Rows 20 to 28.
-pub fn read_batch(day: &DayFile, batch: &[u32]) -> Result<Vec<Record>, Refusal> {
+/// Rows 20 and 21.
+pub(crate) fn check_length(batch: &[u32]) -> Result<(), Refusal> {
     let Some(&header) = batch.first() else { return refuse(20, 0) };
     let p = payload(header) as usize;
-    if kind(header) != 1 || p > 256 {
+    if kind(header) != 1 || p > MOST_RECORDS {
         return refuse(20, 0);
     }
     if batch.len() != 1 + 6 * p {
         return refuse(21, 0);
     }
+    Ok(())
+}
+
+/// Rows 22 to 28 over the records behind the header, which is not looked at.
+pub(crate) fn read_records(day: &DayFile, batch: &[u32]) -> Result<Vec<Record>, Refusal> {
     check_words(batch)?;
     let records: Vec<Record> = batch[1..].chunks(6).map(batch_record).collect();
     if let Some(i) = records.iter().position(|r| r.place >= day.series.len()) {
@@ -285,23 +295,40 @@ pub fn read_batch(day: &DayFile, batch: &[u32]) -> Result<Vec<Record>, Refusal> 
     Ok(records)
 }
 
-/// A position: (series place, exercised or assigned, fail), its net, its DVP.
-type Key = (usize, bool, bool);
+/// Which position: (series place, exercised or assigned, fail).
+pub(crate) type Key = (usize, bool, bool);
 
-#[derive(Clone, Copy, Debug, Default)]
-struct Position {
-    net: i128,
-    dvp: i128,
+impl Record {
+    pub(crate) fn key(&self) -> Key {
+        (self.place, self.exercised, self.fail)
+    }
 }
 
-fn net(records: &[Record]) -> BTreeMap<Key, Position> {
+#[derive(Clone, Copy, Debug, Default)]
+pub(crate) struct Position {
+    pub net: i128,
+    pub dvp: i128,
+}
+
+impl Position {
+    pub(crate) fn is_held(&self) -> bool {
+        self.net != 0 || self.dvp != 0
+    }
+}
+
+/// Step 1, and row 30.
+pub(crate) fn net(day: &DayFile, records: &[Record]) -> Result<BTreeMap<Key, Position>, Refusal> {
     let mut positions: BTreeMap<Key, Position> = BTreeMap::new();
     for r in records {
-        let position = positions.entry((r.place, r.exercised, r.fail)).or_default();
+        let position = positions.entry(r.key()).or_default();
         position.net += r.short - r.long;
         position.dvp += r.dvp;
     }
-    positions
+    let above = |r: &Record| positions[&r.key()].net.abs() * day.series[r.place].multiplier > 10_000_000;
+    match records.iter().position(above) {
+        Some(i) => refuse(30, i),
+        None => Ok(positions),
+    }
 }
 
 /// Rows 50 and 51.
@@ -449,14 +476,8 @@ pub fn reckon(day: &[u32], batch: &[u32]) -> Result<Report, Refusal> {
 /// The report of two files with these deposits, or the row that refuses them (all rows but 40).
 pub fn reckon_with(day: &[u32], batch: &[u32], deposits: &[u32]) -> Result<Report, Refusal> {
     let day = read_day(day)?;
-    let records = read_batch(&day, batch)?;
-    let positions = net(&records);
-    for (i, r) in records.iter().enumerate() {
-        let position = positions[&(r.place, r.exercised, r.fail)];
-        if position.net.abs() * day.series[r.place].multiplier > 10_000_000 {
-            return refuse(30, i);
-        }
-    }
+    check_length(batch)?;
+    let positions = net(&day, &read_records(&day, batch)?)?;
     let covered = covered(&day, &positions, &read_deposits(&day, deposits)?);
     let mut lines = Vec::new();
     let mut totals = [0i128; 3];
@@ -464,7 +485,7 @@ pub fn reckon_with(day: &[u32], batch: &[u32], deposits: &[u32]) -> Result<Repor
         for group in 0..29 {
             let held = positions.iter().any(|(&(s, _, f), p)| {
                 let number = day.series[s].class_number;
-                f == fail && (p.net != 0 || p.dvp != 0) && day.classes.iter().any(|c| c.number == number && c.group == group)
+                f == fail && p.is_held() && day.classes.iter().any(|c| c.number == number && c.group == group)
             });
             if held {
                 let amounts = line(&day, &covered, fail, group);
@@ -477,7 +498,7 @@ pub fn reckon_with(day: &[u32], batch: &[u32], deposits: &[u32]) -> Result<Repor
     Ok(Report { lines, totals })
 }
 
-fn push_amount(words: &mut Vec<u32>, z: i128) {
+pub(crate) fn push_amount(words: &mut Vec<u32>, z: i128) {
     let size = z.unsigned_abs();
     assert!(size < 1 << 63);
     words.push(5 << 29 | u32::from(z < 0) << 28 | (size >> 58) as u32);
@@ -517,14 +538,18 @@ pub fn text(result: &Result<Report, Refusal>) -> String {
     }
 }
 
+/// Row 40, and the words at the memory's front.
+pub(crate) fn write(words: &[u32], memory: &mut [u32]) -> Result<usize, Refusal> {
+    if words.len() > memory.len() {
+        return refuse(40, words.len());
+    }
+    memory[..words.len()].copy_from_slice(words);
+    Ok(words.len())
+}
+
 /// The call over words: the answer, and the memory written where it is a report.
 pub fn call_words(day: &[u32], batch: &[u32], deposits: &[u32], memory: &mut [u32]) -> Result<usize, Refusal> {
-    let report = words(&reckon_with(day, batch, deposits)?);
-    if report.len() > memory.len() {
-        return refuse(40, report.len());
-    }
-    memory[..report.len()].copy_from_slice(&report);
-    Ok(report.len())
+    write(&words(&reckon_with(day, batch, deposits)?), memory)
 }
 
 pub fn to_words(bytes: &[u8]) -> Vec<u32> {
@@ -540,7 +565,7 @@ pub fn call_bytes(day: &[u8], batch: &[u8], memory: &mut [u8]) -> Result<usize, 
     if day.len() % 4 != 0 || day.len() > 4 * LONGEST_DAY {
         return refuse(1, 0);
     }
-    if batch.len() % 4 != 0 || batch.len() > 4 * 1537 {
+    if batch.len() % 4 != 0 || batch.len() > 4 * LONGEST_BATCH {
         return refuse(2, 0);
     }
     let mut words = to_words(memory);

@@ -1,7 +1,7 @@
 //! The call over words with deposits against the reckoner: number, place and every word of the memory.
 use harness::accounts::{account, damage, mixed, Account};
 use harness::deposits::{deposits, futures_account, mixed_case, mixed_futures};
-use harness::layout::LONGEST_DAY;
+use harness::layout::{LONGEST_BATCH, LONGEST_DAY};
 use harness::reckoner::{call_words, reckon, reckon_with, to_bytes, to_words, words, Refusal};
 use harness::rng::Rng;
 use harness::unit;
@@ -78,7 +78,7 @@ fn without_deposits_as_the_byte_call() {
         for _ in 0..[0, 0, 1, 2][i % 4] {
             damage(&mut rng, &mut a);
         }
-        if a.day.len() > LONGEST_DAY || a.batch.len() > 1537 {
+        if a.day.len() > LONGEST_DAY || a.batch.len() > LONGEST_BATCH {
             continue;
         }
         let before: Vec<u32> = (0..room(&mut rng, &a, &[])).map(|_| rng.next() as u32).collect();

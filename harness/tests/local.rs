@@ -5,6 +5,7 @@ use harness::deposits::{classes, deposit, deposits, futures_account, mixed_futur
 use harness::layout::{counts, series_at};
 use harness::reading::read_report;
 use harness::reckoner::{to_bytes, to_words, Line, Refusal, Report};
+use harness::records::{batch_of, records_of};
 use harness::rng::Rng;
 use harness::unit;
 
@@ -18,28 +19,18 @@ fn report(a: &Account) -> Option<Report> {
     Some(read_report(&to_words(&memory)[..n]).expect("a report"))
 }
 
-fn records(batch: &[u32]) -> Vec<[u32; 6]> {
-    batch[1..].chunks(6).map(|w| w.try_into().unwrap()).collect()
-}
-
-fn joined(records: &[[u32; 6]]) -> Vec<u32> {
-    let mut out = vec![1 << 29 | records.len() as u32];
-    out.extend(records.iter().flatten());
-    out
-}
-
 #[test]
 fn reordered_records() {
     let mut rng = Rng::new(301);
     let mut compared = 0;
     for i in 0..6000 {
         let a = account(&mut rng, mixed(i));
-        let mut moved = records(&a.batch);
+        let mut moved = records_of(&a.batch);
         rng.shuffle(&mut moved);
         let room = if i % 7 == 0 { rng.below(500) as usize } else { 4460 };
         let before: Vec<u8> = (0..room).map(|_| rng.next() as u8).collect();
         let (mut first, mut second) = (before.clone(), before);
-        let (x, y) = (call(&a, &mut first), call(&Account { day: a.day.clone(), batch: joined(&moved) }, &mut second));
+        let (x, y) = (call(&a, &mut first), call(&Account { day: a.day.clone(), batch: batch_of(&moved) }, &mut second));
         // of a batch refused by row 30 the place may move with the records; the accepted ones are equal throughout
         if x.is_ok() || x.is_err_and(|r| r.number == 40) {
             assert_eq!(x, y, "case {i}");
@@ -84,12 +75,12 @@ fn edit_of_one_line() {
     let (mut edits, mut moved, mut beside, mut gone) = (0, 0, 0, 0);
     for i in 0..12_000 {
         let a = account(&mut rng, mixed(i));
-        let all = records(&a.batch);
+        let all = records_of(&a.batch);
         let Some(before) = report(&a) else { continue };
         if all.is_empty() {
             continue;
         }
-        let fresh = records(&batch(&mut rng, &a.day, 60));
+        let fresh = records_of(&batch(&mut rng, &a.day, 60));
         let from = if rng.once_in(4) { &fresh } else { &all };
         let at = place(&a.day, &rng.pick(from));
         let mut edited: Vec<[u32; 6]> = all.into_iter().filter(|r| place(&a.day, r) != at).collect();
@@ -99,7 +90,7 @@ fn edit_of_one_line() {
             continue;
         }
         rng.shuffle(&mut edited);
-        let Some(after) = report(&Account { day: a.day.clone(), batch: joined(&edited) }) else { continue };
+        let Some(after) = report(&Account { day: a.day.clone(), batch: batch_of(&edited) }) else { continue };
         let change = change_of_one_line(&before, &after, at, &format!("case {i}"));
         edits += 1;
         moved += usize::from(change != 0);
@@ -128,7 +119,7 @@ fn reordered_deposits() {
     for i in 0..6000 {
         let a = futures_account(&mut rng, mixed_futures(i));
         let given = deposits(&mut rng, &a);
-        let (mut moved, mut moved_records) = (given.clone(), records(&a.batch));
+        let (mut moved, mut moved_records) = (given.clone(), records_of(&a.batch));
         rng.shuffle(&mut moved);
         if i % 2 == 0 {
             rng.shuffle(&mut moved_records);
@@ -137,7 +128,7 @@ fn reordered_deposits() {
         let before: Vec<u32> = (0..room).map(|_| rng.next() as u32).collect();
         let (mut first, mut second) = (before.clone(), before);
         let x = call_with(&a, &given, &mut first);
-        let y = call_with(&Account { day: a.day.clone(), batch: joined(&moved_records) }, &moved, &mut second);
+        let y = call_with(&Account { day: a.day.clone(), batch: batch_of(&moved_records) }, &moved, &mut second);
         // of a list refused by row 51 the place may move with the deposits; the accepted ones are equal throughout
         if x.is_ok() || x.is_err_and(|r| r.number == 40) {
             assert_eq!(x, y, "case {i}");
@@ -177,12 +168,12 @@ fn edit_of_one_line_with_deposits() {
             });
         }
         rng.shuffle(&mut edited);
-        let mut kept = records(&a.batch);
+        let mut kept = records_of(&a.batch);
         if of_records {
             kept.retain(|r| place(&a.day, r) != at || !rng.once_in(3));
             rng.shuffle(&mut kept);
         }
-        let Some(after) = report_with(&Account { day: a.day.clone(), batch: joined(&kept) }, &edited) else { continue };
+        let Some(after) = report_with(&Account { day: a.day.clone(), batch: batch_of(&kept) }, &edited) else { continue };
         let change = change_of_one_line(&before, &after, at, &format!("case {i}"));
         if !of_records {
             assert_eq!(line(&before, at).is_some(), line(&after, at).is_some(), "case {i}");

@@ -1,5 +1,6 @@
 //! The call for many accounts against the reckoner: answer, result list and every word of the memory.
 use harness::accounts::{account, batch, damage, day_file, Account, Size, LARGEST, SMALL, TYPICAL};
+use harness::layout::LONGEST_BATCH;
 use harness::many::{call_all, joined, reports};
 use harness::reckoner::{call_bytes, reckon, to_bytes, to_words, words, Refusal};
 use harness::requests::{cases, numbers};
@@ -166,7 +167,9 @@ fn equals_byte_calls_in_turn() {
                     reported += 1;
                 }
                 // a batch longer than its longest form, row 20 or 21 over words, is row 2 in bytes
-                Err(Refusal { number: 2, .. }) => assert!(b.len() > 1537 && (pair == [20, 0] || pair == [21, 0]), "case {i}"),
+                Err(Refusal { number: 2, .. }) => {
+                    assert!(b.len() > LONGEST_BATCH && (pair == [20, 0] || pair == [21, 0]), "case {i}")
+                }
                 Err(r) => assert_eq!(pair, [r.number, r.place as u32], "case {i}"),
             }
         }

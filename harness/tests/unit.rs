@@ -3,7 +3,7 @@ use harness::accounts::{
     accepted, account, all_lines, damage, damage_word, extreme, mixed, utmost, without_adjustments, without_decimals, Account,
     SMALL, TYPICAL, WORD_WAYS,
 };
-use harness::layout::{counts, series_at, LONGEST_DAY};
+use harness::layout::{counts, series_at, LONGEST_BATCH, LONGEST_DAY};
 use harness::reading::read_report;
 use harness::reckoner::{call_bytes, first_bad_record, reckon, text, to_bytes, to_words, words, Refusal};
 use harness::rng::Rng;
@@ -51,7 +51,7 @@ fn room(rng: &mut Rng, a: &Account) -> usize {
 
 /// Changes that only files of bytes can have: a ragged length, nothing at all, more than the longest form.
 fn damage_bytes(rng: &mut Rng, day: &mut Vec<u8>, batch: &mut Vec<u8>) {
-    let longest = [4 * LONGEST_DAY, 4 * 1537];
+    let longest = [4 * LONGEST_DAY, 4 * LONGEST_BATCH];
     let which = rng.below(2) as usize;
     let file = if which == 0 { day } else { batch };
     match rng.below(6) {
