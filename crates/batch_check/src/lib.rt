@@ -12,7 +12,7 @@ use words::{Kind, has_kind};
 
 // Row 20: no words, wrong kind, P too large.
 #[tactic(auto, unfolding(model::specs::BatchChecks::row20))]
-fn bad_header(batch: &[u32]) -> bool
+pub fn bad_header(batch: &[u32]) -> bool
     ensures { result ≡ row20 batch.now }
 {
     batch.is_empty()
@@ -22,7 +22,7 @@ fn bad_header(batch: &[u32]) -> bool
 
 // Row 21: the length is not that of so many records.
 #[tactic(auto, unfolding(model::specs::BatchChecks::row21))]
-fn bad_length(batch: &[u32]) -> bool
+pub fn bad_length(batch: &[u32]) -> bool
     ensures { result ≡ row21 batch.now }
 {
     batch.len() != 1 + RECORD_WORDS * record_count(batch)

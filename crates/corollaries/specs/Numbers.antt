@@ -1,5 +1,5 @@
 -- The two numbers of an answer, case by case: 0 and the length; 40 and the words needed; a refusal's number and place. The second is below 2 ^ 32.
-use Rattle.std.specs.Prelude.{◌≡◌, refl, List, [], ℕ, ◌/◌, ◌^◌, ◌≤◌, ◌<◌, Ok, Err}
+use Rattle.std.specs.Prelude.{◌≡◌, refl, List, [], ℕ, ◌/◌, ◌^◌, ◌≤◌, ◌<◌, length, Ok, Err}
 use Rattle.std.proofs.Common.{sym, subst, le-leb}
 use Rattle.std.proofs.lemmas.Bool.{lt-leb}
 use Rattle.model.specs.Outcomes.{Answer}
@@ -9,9 +9,12 @@ use Rattle.model.specs.Answers.{number_of, place_of, status_of, value_of}
 use Rattle.model.specs.Rows.{◌or_else◌}
 use Rattle.model.specs.Calls.{verdict, answer, answer_of, room_answer, needed}
 use Rattle.model.specs.Bytes.{words_of, bytes_check, byte_answer}
-use Rattle.model.proofs.Places.{value_small, byte_value_small}
+use Rattle.model.specs.Rewriting.{rewriting, added}
+use Rattle.model.specs.RewritingChecks.{rewrite_check, add_check}
+use Rattle.model.specs.RewritingCalls.{rewrite_answer, add_answer}
+use Rattle.model.proofs.Places.{value_small, byte_value_small, rewrite_value_small, add_value_small}
 
--- a the answer of a call whose rows above 40 say v, whose report has n words, and whose memory has room for so many
+-- a the answer of a call whose rows above 40 say v, that has n words to write, and whose memory has room for so many
 pub record Numbers (v : Verdict) (n room : ℕ) (a : Answer) : Type 0 where
   pub reported : v ≡ Ok tt → n ≤ room → (status_of a ≡ 0) × (value_of a ≡ n)
   pub short : v ≡ Ok tt → room < n → (status_of a ≡ 40) × (value_of a ≡ n)
@@ -42,6 +45,14 @@ module _ (n room : ℕ) where
 pub numbers : (d b x : List ℕ) (room : ℕ) → Numbers (verdict d b x) (needed d b) room (answer d b x room)
 unfolding answer
 numbers d b x room = numbers_of_lem (needed d b) room (verdict d b x) (value_small d b x room)
+
+pub rewrite_numbers : (d b : List ℕ) (room : ℕ) → Numbers (rewrite_check d b) (length (rewriting b)) room (rewrite_answer d b room)
+unfolding rewrite_answer
+rewrite_numbers d b room = numbers_of_lem (length (rewriting b)) room (rewrite_check d b) (rewrite_value_small d b room)
+
+pub add_numbers : (d b w : List ℕ) (room : ℕ) → Numbers (add_check d b w) (length (rewriting (added b w))) room (add_answer d b w room)
+unfolding add_answer
+add_numbers d b w room = numbers_of_lem (length (rewriting (added b w))) room (add_check d b w) (add_value_small d b w room)
 
 pub byte_numbers : (day b : List ℕ) (room : ℕ)
     → Numbers (bytes_check day b or_else verdict (words_of day) (words_of b) []) (needed (words_of day) (words_of b)) (room / 4) (byte_answer day b room)

@@ -1,5 +1,5 @@
 // What the C entries answer: the report of two files given as bytes; of files and deposits given as words; the reports of all accounts of
-// a broker; a printed text read back.
+// a broker; a batch rewritten, and with a record more; a printed text read back.
 #![tactic(auto)]
 
 ghost use Rattle.std.specs.Prelude.{◌≡◌, ◌+◌, ◌*◌, ◌^◌, length};
@@ -7,6 +7,7 @@ ghost use Rattle.model.specs.Answers.{packed};
 ghost use Rattle.model.specs.Bytes.{byte_answer, bytes_after};
 ghost use Rattle.model.specs.Calls.{answer, memory_after};
 ghost use Rattle.model.specs.ManyAccounts.{reports_answer, results_after, reports_after};
+ghost use Rattle.model.specs.RewritingCalls.{rewrite_answer, rewrite_after, add_answer, add_after};
 ghost use Rattle.model.specs.TextReading.{text_says, text_number, text_value, total_after};
 
 use answers::NUMBER_UNIT;
@@ -49,6 +50,24 @@ pub fn mars_reports(
     ensures report { report.new ≡ reports_after day.now batches.now lengths.now (length results.old) report.old }
 {
     answers::packed(accounts::reports(day, batches, lengths, results, report))
+}
+
+// The same of a batch rewritten with one record for each position held: 0 and its length, or the refusal's number and place.
+#[tactic(auto, using(model::proofs::Places::rewrite_value_small))]
+pub fn mars_rewrite(day: &[u32], batch: &[u32], out: &mut [u32]) -> u64
+    ensures result { result ≡ packed (rewrite_answer day.now batch.now (length out.old)) }
+    ensures out { out.new ≡ rewrite_after day.now batch.now out.old }
+{
+    answers::packed(rewriting::rewrite(day, batch, out))
+}
+
+// The same of the rewriting of a batch with a record more.
+#[tactic(auto, using(model::proofs::Places::add_value_small))]
+pub fn mars_add_record(day: &[u32], batch: &[u32], record: &[u32], out: &mut [u32]) -> u64
+    ensures result { result ≡ packed (add_answer day.now batch.now «record».now (length out.old)) }
+    ensures out { out.new ≡ add_after day.now batch.now «record».now out.old }
+{
+    answers::packed(rewriting::add_record(day, batch, record, out))
 }
 
 // Number × 2^32 + value: 0 and the line count of a printed report, whose totals are stored, a refusal's number and place, or

@@ -6,6 +6,7 @@ ghost use Rattle.model.specs.Answers.{packed};
 ghost use Rattle.model.specs.Bytes.{byte_answer, bytes_after};
 ghost use Rattle.model.specs.Calls.{answer, memory_after};
 ghost use Rattle.model.specs.ManyAccounts.{reports_answer, results_after, reports_after};
+ghost use Rattle.model.specs.RewritingCalls.{rewrite_answer, rewrite_after, add_answer, add_after};
 ghost use Rattle.model.specs.TextReading.{text_says, text_number, text_value, total_after};
 
 // Number × 2^32 + value: 0 and the report's length in words, or the refusal's number and place.
@@ -45,6 +46,29 @@ pub extern "C" fn mars_reports(
     ensures report { report.new ≡ reports_after day.now batches.now lengths.now (length results.old) report.old }
 {
     mars::mars_reports(day, batches, lengths, results, report)
+}
+
+// The same of a batch rewritten with one record for each position held: 0 and its length, or the refusal's number and place.
+#[unsafe(no_mangle)]
+pub extern "C" fn mars_rewrite(day: &[u32], batch: &[u32], out: &mut [u32]) -> u64
+    ensures result { result ≡ packed (rewrite_answer day.now batch.now (length out.old)) }
+    ensures out { out.new ≡ rewrite_after day.now batch.now out.old }
+{
+    mars::mars_rewrite(day, batch, out)
+}
+
+// The same of the rewriting of a batch with a record more.
+#[unsafe(no_mangle)]
+pub extern "C" fn mars_add_record(
+    day: &[u32],
+    batch: &[u32],
+    record: &[u32],
+    out: &mut [u32],
+) -> u64
+    ensures result { result ≡ packed (add_answer day.now batch.now «record».now (length out.old)) }
+    ensures out { out.new ≡ add_after day.now batch.now «record».now out.old }
+{
+    mars::mars_add_record(day, batch, record, out)
 }
 
 // Number × 2^32 + value: 0 and the line count of a printed report, whose totals are stored, a refusal's number and place, or

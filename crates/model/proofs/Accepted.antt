@@ -37,7 +37,7 @@ found k None e = refl
 pub clear : (k : ℕ → Check) (t : ℕ → Bool) (n : ℕ) → record_row k t n ≡ Ok tt → (i : ℕ) → i < n → t i ≡ false
 clear k t n e = first_clear t n (found k (first_bad t n) e)
 
-clear_back : (k : ℕ → Check) (t : ℕ → Bool) (n : ℕ) → ((i : ℕ) → i < n → t i ≡ false) → record_row k t n ≡ Ok tt
+pub clear_back : (k : ℕ → Check) (t : ℕ → Bool) (n : ℕ) → ((i : ℕ) → i < n → t i ≡ false) → record_row k t n ≡ Ok tt
 clear_back k t n h = rw (first-none t n h)
 
 pub record DayRows (d : List ℕ) : Type 0 where
@@ -50,10 +50,8 @@ pub record DayRows (d : List ℕ) : Type 0 where
   pub at16 : (s : ℕ) → s < series_count d → row16 d s ≡ false
   pub at17 : (s : ℕ) → s < series_count d → row17 d s ≡ false
 
--- the rows of the batch by itself, and with row 30
-pub record BatchChecks (d b : List ℕ) : Type 0 where
-  pub at20 : row20 b ≡ false
-  pub at21 : row21 b ≡ false
+-- the rows of a batch's records
+pub record RecordRows (d b : List ℕ) : Type 0 where
   pub at22 : (i : ℕ) → i < batch_words (record_count b) → row22 b i ≡ false
   pub at27 : (i : ℕ) → i < batch_words (record_count b) → row27 b i ≡ false
   pub at28 : (i : ℕ) → i < batch_words (record_count b) → row28 b i ≡ false
@@ -61,6 +59,12 @@ pub record BatchChecks (d b : List ℕ) : Type 0 where
   pub at24 : (r : ℕ) → r < record_count b → row24 d b r ≡ false
   pub at25 : (r : ℕ) → r < record_count b → row25 d b r ≡ false
   pub at26 : (r : ℕ) → r < record_count b → row26 d b r ≡ false
+
+-- the rows of the batch by itself, and with row 30
+pub record BatchChecks (d b : List ℕ) : Type 0 where
+  pub at20 : row20 b ≡ false
+  pub at21 : row21 b ≡ false
+  pub records : RecordRows d b
 
 pub record BatchRows (d b : List ℕ) : Type 0 where
   pub checks : BatchChecks d b
@@ -116,16 +120,12 @@ module _ (d x : List ℕ) where
   deposits_pass r = tried_pass _ (plain_back (Netting BadDeposit) _ r.even then clear_back _ _ _ r.at50 then clear_back _ _ _ r.at51 then tt)
 
 module _ (d b : List ℕ) where
-  pub batch_checked : batch_check d b ≡ Ok tt → BatchChecks d b
-  unfolding batch_check batch_form word_check position_check
-  batch_checked e =
-      let batch = tried-passed _ e in
-      let form = tried-passed _ batch.0 in
-      let words = tried-passed _ form.1.1.0 in
-      let positions = tried-passed _ batch.1.0 in
+  pub records_checked : word_check b ≡ Ok tt → position_check d b ≡ Ok tt → RecordRows d b
+  unfolding word_check position_check
+  records_checked e q =
+      let words = tried-passed _ e in
+      let positions = tried-passed _ q in
       record {
-        at20 = plain_clear (BatchHeader BadBatchHeader) _ form.0;
-        at21 = plain_clear (BatchLength BadBatchLength) _ form.1.0;
         at22 = clear _ _ _ words.0;
         at27 = clear _ _ _ words.1.0;
         at28 = clear _ _ _ words.1.1.0;
@@ -133,6 +133,26 @@ module _ (d b : List ℕ) where
         at24 = clear _ _ _ positions.1.0;
         at25 = clear _ _ _ positions.1.1.0;
         at26 = clear _ _ _ positions.1.1.1.0;
+      }
+
+  -- and back
+  pub words_pass : RecordRows d b → word_check b ≡ Ok tt
+  unfolding word_check
+  words_pass r = tried_pass _ (clear_back _ _ _ r.at22 then clear_back _ _ _ r.at27 then clear_back _ _ _ r.at28 then tt)
+
+  pub positions_pass : RecordRows d b → position_check d b ≡ Ok tt
+  unfolding position_check
+  positions_pass r = tried_pass _ (clear_back _ _ _ r.at23 then clear_back _ _ _ r.at24 then clear_back _ _ _ r.at25 then clear_back _ _ _ r.at26 then tt)
+
+  pub batch_checked : batch_check d b ≡ Ok tt → BatchChecks d b
+  unfolding batch_check batch_form
+  batch_checked e =
+      let batch = tried-passed _ e in
+      let form = tried-passed _ batch.0 in
+      record {
+        at20 = plain_clear (BatchHeader BadBatchHeader) _ form.0;
+        at21 = plain_clear (BatchLength BadBatchLength) _ form.1.0;
+        records = records_checked form.1.1.0 batch.1.0;
       }
 
   pub netting_rows : netting_check d b ≡ Ok tt → (r : ℕ) → r < record_count b → row30 d b r ≡ false
@@ -162,16 +182,16 @@ module _ (d b x : List ℕ) where
   all_passed p q r z = tried_pass _ (p then q then r then z then tt)
 
   pub rows_accepted : day_check d ≡ Ok tt → BatchRows d b → DepositRows d x → Accepted d b x
-  unfolding batch_check batch_form word_check position_check netting_check
+  unfolding batch_check batch_form netting_check
   rows_accepted p r z =
       all_passed p
       (tried_pass _
       (tried_pass _
       (plain_back (BatchHeader BadBatchHeader) _ r.checks.at20
       then plain_back (BatchLength BadBatchLength) _ r.checks.at21
-      then tried_pass _ (clear_back _ _ _ r.checks.at22 then clear_back _ _ _ r.checks.at27 then clear_back _ _ _ r.checks.at28 then tt)
+      then words_pass d b r.checks.records
       then tt)
-      then tried_pass _ (clear_back _ _ _ r.checks.at23 then clear_back _ _ _ r.checks.at24 then clear_back _ _ _ r.checks.at25 then clear_back _ _ _ r.checks.at26 then tt)
+      then positions_pass d b r.checks.records
       then tt))
       (clear_back _ _ _ r.at30)
       (deposits_pass d x z)

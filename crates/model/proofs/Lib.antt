@@ -5,7 +5,11 @@ pub mod BatchWords
 pub mod Limits
 pub mod Lines
 pub mod Nets
+pub mod GoodRecord
+pub mod NettingRows
 pub mod Orders
+pub mod HeldRecords
+pub mod Added
 pub mod Read
 pub mod Length
 pub mod NoLine

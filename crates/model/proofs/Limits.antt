@@ -23,7 +23,7 @@ use Rattle.numbers.specs.Tests.{or_left, or_right}
 use Rattle.model.specs.declared.Check.TheVariants.{BatchLength}
 use Rattle.model.specs.declared.BatchLengthFault.TheVariants.{BadBatchLength}
 use Rattle.model.proofs.Verdicts.{tried-passed}
-use Rattle.model.proofs.Accepted.{plain_clear, DayRows, BatchChecks, BatchRows}
+use Rattle.model.proofs.Accepted.{plain_clear, DayRows, RecordRows, BatchChecks, BatchRows}
 use Rattle.model.proofs.BatchWords.{words_clear}
 use Rattle.model.proofs.Sizes.{size-amount}
 
@@ -102,7 +102,11 @@ module _ (d : List ℕ) (r : DayRows d) where
         let z = eqb-false (multiplier d s) 0 (or_right (is_some (first_bad (bad_series_word d s) series_words)) (eqb (multiplier d s) 0) series_good) in
         omega arith
 
-row21-length : (b : List ℕ) → row21 b ≡ false → length b ≡ batch_words (record_count b)
+pub row20_count : (b : List ℕ) → row20 b ≡ false → record_count b ≤ most_records
+unfolding row20
+row20_count b e = ltb-false most_records (record_count b) (or_right (eqb (length b) 0 || not (eqb (kind (batch_header b)) 1)) (ltb most_records (record_count b)) e)
+
+pub row21-length : (b : List ℕ) → row21 b ≡ false → length b ≡ batch_words (record_count b)
 unfolding row21
 row21-length b e = eqb-true (length b) (batch_words (record_count b)) (not-false (eqb (length b) (batch_words (record_count b))) e)
 
@@ -113,41 +117,40 @@ form_length b e = row21-length b (plain_clear (BatchLength BadBatchLength) _ (tr
 
 module _ (d b : List ℕ) (r : BatchChecks d b) where
   pub few_records : record_count b ≤ most_records
-  unfolding row20
-  few_records = ltb-false most_records (record_count b) (or_right (eqb (length b) 0 || not (eqb (kind (batch_header b)) 1)) (ltb most_records (record_count b)) r.at20)
+  few_records = row20_count b r.at20
 
   pub batch_length : length b ≡ batch_words (record_count b)
   batch_length = row21-length b r.at21
 
-  module _ (q : ℕ) (h : q < record_count b) where
-    in_range : (j : ℕ) → j < record_words → out_of_range b q j ≡ false
-    unfolding row27
-    in_range j l = words_clear (out_of_range b) (record_count b) r.at27 q j h l
+module _ (d b : List ℕ) (r : RecordRows d b) (q : ℕ) (h : q < record_count b) where
+  in_range : (j : ℕ) → j < record_words → out_of_range b q j ≡ false
+  unfolding row27
+  in_range j l = words_clear (out_of_range b) (record_count b) r.at27 q j h l
 
-    record_limit_lem : (j : ℕ) → j < record_words → payload (record_word b q j) ≤ record_limit j
-    unfolding out_of_range
-    record_limit_lem j l =
-        ltb-false (record_limit j) (payload (record_word b q j)) (or_left (ltb (record_limit j) (payload (record_word b q j))) (eqb j 3 && dvp_out_of_range b q) (in_range j l))
+  record_limit_lem : (j : ℕ) → j < record_words → payload (record_word b q j) ≤ record_limit j
+  unfolding out_of_range
+  record_limit_lem j l =
+      ltb-false (record_limit j) (payload (record_word b q j)) (or_left (ltb (record_limit j) (payload (record_word b q j))) (eqb j 3 && dvp_out_of_range b q) (in_range j l))
 
-    pub long_limit : long b q ≤ quantity_limit
-    long_limit = record_limit_lem 1 (omega arith)
+  pub long_limit : long b q ≤ quantity_limit
+  long_limit = record_limit_lem 1 (omega arith)
 
-    pub short_limit : short b q ≤ quantity_limit
-    short_limit = record_limit_lem 2 (omega arith)
+  pub short_limit : short b q ≤ quantity_limit
+  short_limit = record_limit_lem 2 (omega arith)
 
-    pub place_limit : place b q < series_count d
-    unfolding row23
-    place_limit = leb-false (series_count d) (place b q) (r.at23 q h)
+  pub place_limit : place b q < series_count d
+  unfolding row23
+  place_limit = leb-false (series_count d) (place b q) (r.at23 q h)
 
-    dvp-size : dvp_size b q ≤ dvp_amount_limit
-    unfolding dvp_out_of_range out_of_range
-    dvp-size =
-        ltb-false dvp_amount_limit (dvp_size b q)
-        (or_right (ltb 0 (bits (payload (record_word b q 3)) 5 23)) (ltb dvp_amount_limit (dvp_size b q))
-        (or_right (ltb payload_limit (payload (record_word b q 3))) (dvp_out_of_range b q) (in_range 3 (omega arith))))
+  dvp-size : dvp_size b q ≤ dvp_amount_limit
+  unfolding dvp_out_of_range out_of_range
+  dvp-size =
+      ltb-false dvp_amount_limit (dvp_size b q)
+      (or_right (ltb 0 (bits (payload (record_word b q 3)) 5 23)) (ltb dvp_amount_limit (dvp_size b q))
+      (or_right (ltb payload_limit (payload (record_word b q 3))) (dvp_out_of_range b q) (in_range 3 (omega arith))))
 
-    pub dvp_limit_lem : nat_abs (dvp_amount b q) ≤ dvp_amount_limit
-    dvp_limit_lem = rw (size-amount (record_word b q 3) (record_word b q 4) (record_word b q 5)) dvp-size
+  pub dvp_limit_lem : nat_abs (dvp_amount b q) ≤ dvp_amount_limit
+  dvp_limit_lem = rw (size-amount (record_word b q 3) (record_word b q 4) (record_word b q 5)) dvp-size
 
 module _ (d b : List ℕ) (r : BatchRows d b) (q : ℕ) (h : q < record_count b) where
   pub net_limit_lem : nat_abs (net b (key b q)) * multiplier d (place b q) ≤ position_limit

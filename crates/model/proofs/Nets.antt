@@ -1,6 +1,8 @@
 -- Nets and DVPs as sums over the list of records: in any order the same, and untouched by records of other positions.
-use mathlib.Core.Path.{◌≡◌, sym, ap, ◌∙◌, fun_ext}
+use Rattle.std.specs.Prelude.{Option, Some, None}
+use mathlib.Core.Path.{◌≡◌, refl, sym, ap, ◌∙◌, fun_ext}
 use mathlib.Core.Bool.{Bool, false, not, ◌||◌, cond}
+use mathlib.Core.Logic.{◌⊎◌, inl, inr, ⊎_elim}
 use mathlib.Core.List.{List, Perm}
 use Prim.Native.Nat.{ℕ, ◌<◌, ◌≤◌}
 use native.Mathlib.Omega.{arith}
@@ -8,13 +10,15 @@ use borrow.Author.Tests.{eqb-true, ne_eqb, ltb-false, not-false}
 use lib.Dec.{eqb, ltb}
 use lib.IntN.{ℤ, pos, ◌-ℤ◌}
 use lib.ListN.{length, get_or}
+use Rattle.numbers.specs.Scan.{first_bad, first_at, first_clear}
+use Rattle.numbers.specs.Sums.{sum_where, sum_where-none}
 use Rattle.numbers.specs.Perms.{sum_of, sum_to_of, sum-perm}
 use Rattle.numbers.specs.Lists.{sum-keep}
 use Rattle.model.specs.Words.{kind, payload, bits, amount}
 use Rattle.model.specs.DayFile.{day_header, class_count, series_count, series_group}
 use Rattle.model.specs.DayChecks.{row10}
-use Rattle.model.specs.Batch.{record_count}
-use Rattle.model.specs.Netting.{position, net, dvp, places}
+use Rattle.model.specs.Batch.{record_count, key, long, short, dvp_amount}
+use Rattle.model.specs.Netting.{position, position_count, net, dvp, places}
 use Rattle.model.specs.Locality.{record_at, records, of_line, struck, Edit}
 use Rattle.numbers.specs.Tests.{and_left, and_right, or_left, or_right}
 use Rattle.model.proofs.Accepted.{DayRows}
@@ -25,19 +29,40 @@ abbrev pub key_of : List ℕ → ℕ
 key_of w = bits (payload (get_or w 0 0)) 0 10
 
 -- what a record adds to the net and the DVP of the position p
-abbrev net_of : ℕ → List ℕ → ℤ
+abbrev pub net_of : ℕ → List ℕ → ℤ
 net_of p w = cond (eqb (key_of w) p) (pos (payload (get_or w 2 0)) -ℤ pos (payload (get_or w 1 0))) (pos 0)
 
-abbrev dvp_of : ℕ → List ℕ → ℤ
+abbrev pub dvp_of : ℕ → List ℕ → ℤ
 dvp_of p w = cond (eqb (key_of w) p) (amount (get_or w 3 0) (get_or w 4 0) (get_or w 5 0)) (pos 0)
 
-net-sum : (b : List ℕ) (p : ℕ) → net b p ≡ sum_of (net_of p) (records b)
+pub net-sum : (b : List ℕ) (p : ℕ) → net b p ≡ sum_of (net_of p) (records b)
 unfolding net
 net-sum b p = sum_to_of (net_of p) (record_count b) (record_at b)
 
-dvp-sum : (b : List ℕ) (p : ℕ) → dvp b p ≡ sum_of (dvp_of p) (records b)
+pub dvp-sum : (b : List ℕ) (p : ℕ) → dvp b p ≡ sum_of (dvp_of p) (records b)
 unfolding dvp
 dvp-sum b p = sum_to_of (dvp_of p) (record_count b) (record_at b)
+
+-- ---- a position has a record, or its net and DVP are 0
+
+module _ (b : List ℕ) (p : ℕ) where
+  pub record_or_none : ((r : ℕ) × (r < record_count b) × (key b r ≡ p)) ⊎ ((net b p ≡ pos 0) × (dvp b p ≡ pos 0))
+  unfolding net dvp
+  record_or_none = by (first_bad (λ r. eqb (key b r) p) (record_count b)) refl
+    where
+      by : (f : Option ℕ) → first_bad (λ r. eqb (key b r) p) (record_count b) ≡ f
+          → ((r : ℕ) × (r < record_count b) × (key b r ≡ p)) ⊎ ((sum_where (record_count b) (λ r. eqb (key b r) p) (λ r. pos (short b r) -ℤ pos (long b r)) ≡ pos 0) × (sum_where (record_count b) (λ r. eqb (key b r) p) (dvp_amount b) ≡ pos 0))
+      by (Some r) e = let z = first_at (λ r. eqb (key b r) p) (record_count b) r e in inl (r, z.0, eqb-true (key b r) p z.1)
+      by None e =
+          let none = first_clear (λ r. eqb (key b r) p) (record_count b) e in
+          inr (
+            sum_where-none (record_count b) (λ r. eqb (key b r) p) (λ r. pos (short b r) -ℤ pos (long b r)) none,
+            sum_where-none (record_count b) (λ r. eqb (key b r) p) (dvp_amount b) none,
+          )
+
+  -- no record has a key of more than ten bits
+  pub none_outside : position_count ≤ p → (net b p ≡ pos 0) × (dvp b p ≡ pos 0)
+  none_outside h = ⊎_elim (λ z. absurd (omega (arith, z.2))) (λ z. z) record_or_none
 
 -- ---- any order
 

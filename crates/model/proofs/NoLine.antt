@@ -24,7 +24,7 @@ use Rattle.model.specs.Limits.{point_count}
 abbrev six : List ℤ
 six = pos 0 ∷ pos 0 ∷ pos 0 ∷ pos 0 ∷ pos 0 ∷ pos 0 ∷ []
 
-no_size : (z : ℤ) → Steps.not_zero z ≡ false → z ≡ pos 0
+pub no_size : (z : ℤ) → Steps.not_zero z ≡ false → z ≡ pos 0
 no_size (pos n) e = ap pos (omega (arith, ltb-false 0 n e))
 no_size (negsuc n) e = absurd (omega (arith, ltb-false 0 (suc n) e))
 

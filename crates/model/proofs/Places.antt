@@ -22,7 +22,7 @@ use Rattle.model.specs.declared.BatchLengthFault.TheVariants.{BadBatchLength}
 use Rattle.model.specs.declared.BatchWordsFault.{BatchWordsFault}
 use Rattle.model.specs.declared.BatchWordsFault.TheVariants.{WrongKind, OutOfRange, MinusZero}
 use Rattle.model.specs.declared.PositionFault.TheVariants.{SeriesAbsent, ExercisedNonOption, FailNonSecurity, DvpNonSecurity}
-use Rattle.model.specs.declared.NettingFault.TheVariants.{NetTooLarge, BadDeposit, UnlikeMultipliers}
+use Rattle.model.specs.declared.NettingFault.TheVariants.{NetTooLarge, DvpTooLarge, NoSpace, BadDeposit, UnlikeMultipliers}
 use Rattle.model.specs.declared.ReportFault.TheVariants.{TooShort}
 use Rattle.model.specs.declared.AccountsFault.TheVariants.{BadLengths, ShortResults}
 use Rattle.model.specs.Outcomes.{Verdict}
@@ -32,15 +32,19 @@ use Rattle.model.specs.DayFile.{class_count, series_count}
 use Rattle.model.specs.DayChecks.{row10, row11, row12, row13, row14, row15, row16, row17, class_check, series_check, record_check, day_check}
 use Rattle.model.specs.Batch.{record_count, batch_words}
 use Rattle.model.specs.BatchChecks.{row20, row21, row_of, word_row, row23, row24, row25, row26, word_check, batch_form, position_check, batch_check}
-use Rattle.model.specs.Netting.{row30, netting_check}
+use Rattle.model.specs.Netting.{net, dvp, row30, netting_check}
 use Rattle.model.specs.Deposits.{deposit_count}
 use Rattle.model.specs.DepositChecks.{odd_words, row50, row51, deposit_check}
-use Rattle.model.specs.Calls.{verdict, answer, answer_of, room_answer, needed}
+use Rattle.model.specs.Calls.{verdict, answer, answer_of, room_answer, outcome, needed}
+use Rattle.model.specs.Rewriting.{rewriting, added}
+use Rattle.model.specs.RewritingChecks.{row31, row32, dvp_check, space_check, rewriting_check, rewrite_check, added_row21, add_check}
+use Rattle.model.specs.RewritingCalls.{rewrite_answer, add_answer}
 use Rattle.model.specs.Bytes.{words_of, row1, row2, bytes_check, byte_answer}
 use Rattle.model.specs.ManyAccounts.{batch_of, row60, row61, accounts_check, report_start, reports_answer}
 use Rattle.model.proofs.Accepted.{clear}
 use Rattle.model.proofs.DepositOrders.{few_passed}
 use Rattle.model.proofs.Outcome.{needed_most}
+use Rattle.model.proofs.HeldRecords.{held_most, rewritten_length}
 use Rattle.model.proofs.ManyAccounts.{accounts_checked, start_most}
 use Rattle.model.proofs.Verdicts.{Each, ◌then◌, tried-each}
 
@@ -85,25 +89,34 @@ day_low d =
     then tt)
     then tt)
 
-batch_low : (d b : List ℕ) → Low (batch_check d b)
-unfolding batch_check batch_form word_check position_check
-batch_low d b =
+word_low : (b : List ℕ) → Low (word_check b)
+unfolding word_check
+word_low b = all_low _ (by WrongKind then by OutOfRange then by MinusZero then tt)
+  where
+    by : (f : BatchWordsFault) → Low (word_row f b)
+    by f = record_low (BatchWords f) (row_of f b) (batch_words (record_count b)) (λ i. refl) (omega arith)
+
+position_low : (d b : List ℕ) → Low (position_check d b)
+unfolding position_check
+position_low d b =
     all_low _
-    (all_low _
-    (plain_low (BatchHeader BadBatchHeader) (row20 b) refl
-    then plain_low (BatchLength BadBatchLength) (row21 b) refl
-    then all_low _ (word_low WrongKind then word_low OutOfRange then word_low MinusZero then tt)
-    then tt)
-    then all_low _
     (record_low (Positions SeriesAbsent) (row23 d b) (record_count b) (λ i. refl) (omega arith)
     then record_low (Positions ExercisedNonOption) (row24 d b) (record_count b) (λ i. refl) (omega arith)
     then record_low (Positions FailNonSecurity) (row25 d b) (record_count b) (λ i. refl) (omega arith)
     then record_low (Positions DvpNonSecurity) (row26 d b) (record_count b) (λ i. refl) (omega arith)
     then tt)
+
+batch_low : (d b : List ℕ) → Low (batch_check d b)
+unfolding batch_check batch_form
+batch_low d b =
+    all_low _
+    (all_low _ (plain_low (BatchHeader BadBatchHeader) (row20 b) refl then plain_low (BatchLength BadBatchLength) (row21 b) refl then word_low b then tt)
+    then position_low d b
     then tt)
-  where
-    word_low : (f : BatchWordsFault) → Low (word_row f b)
-    word_low f = record_low (BatchWords f) (row_of f b) (batch_words (record_count b)) (λ i. refl) (omega arith)
+
+net_low : (d b : List ℕ) → Low (netting_check d b)
+unfolding netting_check
+net_low d b = record_low (Netting NetTooLarge) (row30 d b) (record_count b) (λ i. refl) (omega arith)
 
 -- a list may have any number of deposits: those before the first that row 50 refuses, and those past it, are as few as the class numbers
 fifty_low : (d x : List ℕ) → Low (record_row (Netting BadDeposit) (row50 d x) (deposit_count x))
@@ -127,14 +140,8 @@ deposit_low d x =
     (λ q. all_low _ (record_low (Netting UnlikeMultipliers) (row51 d x) (deposit_count x) (λ i. refl) (omega (arith, few_passed d x (deposit_count x) (clear (Netting BadDeposit) (row50 d x) (deposit_count x) q))) then tt)))
 
 verdict_low : (d b x : List ℕ) → Low (verdict d b x)
-unfolding verdict netting_check
-verdict_low d b x =
-    all_low _
-    (day_low d
-    then batch_low d b
-    then record_low (Netting NetTooLarge) (row30 d b) (record_count b) (λ i. refl) (omega arith)
-    then deposit_low d x
-    then tt)
+unfolding verdict
+verdict_low d b x = all_low _ (day_low d then batch_low d b then net_low d b then deposit_low d x then tt)
 
 room_low : (n room : ℕ) → n < 2 ^ 32 → value_of (room_answer n room) < 2 ^ 32
 room_low n room h = by (leb n room)
@@ -166,3 +173,37 @@ unfolding reports_answer
 reports_value_small d bs ns entries room =
     answer_low (accounts_check bs ns entries) (Ok (report_start d (batch_of bs ns) room (length ns))) (accounts_low bs ns entries)
     (λ e. omega (arith, start_most d (batch_of bs ns) room (length ns), (accounts_checked bs ns entries e).few))
+
+-- ---- a batch rewritten
+
+rewriting_low : (d b : List ℕ) → Low (rewriting_check d b)
+unfolding rewriting_check dvp_check space_check
+rewriting_low d b =
+    all_low _
+    (net_low d b
+    then record_low (Netting DvpTooLarge) (row31 b) (record_count b) (λ i. refl) (omega arith)
+    then plain_low (Netting NoSpace) (row32 b) refl
+    then tt)
+
+-- whatever rows it passed
+rewriting_room : (v : Verdict) (b : List ℕ) (room : ℕ) → Low v → value_of (outcome v (length (rewriting b)) room) < 2 ^ 32
+rewriting_room v b room l =
+    answer_low v (room_answer (length (rewriting b)) room) l
+    (λ e. room_low (length (rewriting b)) room (omega (arith, rewritten_length (net b) (dvp b), held_most (net b) (dvp b))))
+
+pub rewrite_value_small : (d b : List ℕ) (room : ℕ) → value_of (rewrite_answer d b room) < 2 ^ 32
+unfolding rewrite_answer rewrite_check
+rewrite_value_small d b room = rewriting_room (rewrite_check d b) b room (all_low _ (day_low d then batch_low d b then rewriting_low d b then tt))
+
+pub add_value_small : (d b w : List ℕ) (room : ℕ) → value_of (add_answer d b w room) < 2 ^ 32
+unfolding add_answer add_check
+add_value_small d b w room =
+    rewriting_room (add_check d b w) (added b w) room
+    (all_low _
+    (day_low d
+    then plain_low (BatchHeader BadBatchHeader) (row20 b) refl
+    then plain_low (BatchLength BadBatchLength) (added_row21 b w) refl
+    then word_low (added b w)
+    then position_low d (added b w)
+    then rewriting_low d (added b w)
+    then tt))

@@ -57,7 +57,7 @@ module _ (d b : List ℕ) (days : DayRows d) (recs : BatchRows d b) where
   unfolding dvp
   dvp_bound p =
       bound_where (record_count b) (λ r. eqb (key b r) p) (λ r. eqb (key b r) p) (dvp_amount b) (λ r. 1) dvp_amount_limit (λ r e. e)
-      (λ r h e. omega (arith, dvp_limit_lem d b recs.checks r h))
+      (λ r h e. omega (arith, dvp_limit_lem d b recs.checks.records r h))
 
   -- an accepted batch is within its budget: no record is counted twice
   pub batch_budget : Budget d (net b) (dvp b)

@@ -2,7 +2,7 @@
 use Rattle.std.specs.Prelude.{Option, Some, None, Ok, Err}
 use mathlib.Core.Path.{◌≡◌, refl, sym, ◌∙◌}
 use mathlib.Core.Bool.{Bool, true, false, not}
-use mathlib.Core.List.{List, [], ◌∷◌}
+use mathlib.Core.List.{List, [], ◌∷◌, ◌++◌}
 use Prim.Native.Nat.{ℕ}
 use native.Mathlib.Omega.{arith}
 use borrow.Author.Tests.{eqb-true, not-false}
@@ -47,6 +47,25 @@ tried-each P p [] h = p
 tried-each P p (Ok _ ∷ l) h = tried-each P p l h.1
 tried-each P p (Err k ∷ l) h = h.0
 
+-- the last stage decides
+pub last_stage : (v u : Verdict) → u ≡ v → u ≡ tried (v ∷ [])
+unfolding tried
+last_stage (Ok _) u e = e
+last_stage (Err k) u e = e
+
+-- rows behind others, and rows that are a stage of their own
+pub tried_behind : (l m : List Verdict) → tried (l ++ m) ≡ tried (tried l ∷ m)
+unfolding tried
+tried_behind [] m = refl
+tried_behind (Ok _ ∷ l) m = tried_behind l m
+tried_behind (Err k ∷ l) m = refl
+
+pub tried_staged : (l m : List Verdict) → tried (l ++ (tried m ∷ [])) ≡ tried (l ++ m)
+unfolding tried
+tried_staged [] m = sym (last_stage (tried m) (tried m) refl)
+tried_staged (Ok _ ∷ l) m = tried_staged l m
+tried_staged (Err k ∷ l) m = refl
+
 -- ---- answers, a stage at a time
 
 pub answer_failed : (v r : Verdict) (l : List Verdict) (k : Check) (a : Answer) → r ≡ v → r ≡ Err k → Err k ≡ answer_of (tried (v ∷ l)) a
@@ -73,12 +92,6 @@ equal_of a b r e q = eqb-true a b (not-false (eqb a b) (sym e ∙ q))
 pub none_left : Ok tt ≡ tried []
 unfolding tried
 none_left = refl
-
--- the last stage decides
-pub last_stage : (v u : Verdict) → u ≡ v → u ≡ tried (v ∷ [])
-unfolding tried
-last_stage (Ok _) u e = e
-last_stage (Err k) u e = e
 
 -- a stage of several rows
 pub stage_failed : (v r : Verdict) (l : List Verdict) (k : Check) → r ≡ v → r ≡ Err k → Err k ≡ tried (v ∷ l)

@@ -1,7 +1,8 @@
 -- Files written from their fields, and figures computed from them: what the worked examples are made of. Amounts are in ten-thousandths of a euro.
 use Rattle.std.specs.Prelude.{List, [], ◌∷◌, ◌++◌, map, ℕ, ◌+◌, ◌*◌, ◌^◌, ℤ, pos, neg_ℤ, replicate, Ok}
 use Rattle.model.specs.Outcomes.{Answer}
-use Rattle.model.specs.Words.{word, amount_words}
+use Rattle.model.specs.Words.{word}
+unfoldable pub use Rattle.model.specs.Batch.{position_record}
 use Rattle.model.specs.Answers.{status_of, value_of}
 use Rattle.model.specs.Netting.{net, dvp}
 use Rattle.model.specs.Steps.{line_amounts, class_point, group_point}
@@ -53,10 +54,6 @@ series_record n type expiry multiplier prices theoretical = adjusted_record n ty
 
 abbrev pub batch_file : ℕ → List ℕ → List ℕ
 batch_file count records = word 1 count ∷ records
-
--- key; long and short; DVP
-abbrev pub position_record : ℕ → ℕ → ℕ → ℤ → List ℕ
-position_record key long short z = word 2 key ∷ word 4 long ∷ word 4 short ∷ amount_words z
 
 abbrev pub no_rates : List ℕ
 no_rates = replicate 8 0

@@ -8,7 +8,7 @@ use Rattle.model.specs.declared.ClassFault.TheVariants.{ClassOrder, OffsetDiffer
 use Rattle.model.specs.declared.SeriesFault.TheVariants.{ClassAbsent, SeriesOrder, BadType}
 use Rattle.model.specs.declared.BatchWordsFault.TheVariants.{WrongKind, OutOfRange, MinusZero}
 use Rattle.model.specs.declared.PositionFault.TheVariants.{SeriesAbsent, ExercisedNonOption, FailNonSecurity, DvpNonSecurity}
-use Rattle.model.specs.declared.NettingFault.TheVariants.{NetTooLarge, BadDeposit, UnlikeMultipliers}
+use Rattle.model.specs.declared.NettingFault.TheVariants.{NetTooLarge, DvpTooLarge, NoSpace, BadDeposit, UnlikeMultipliers}
 use Rattle.model.specs.declared.AccountsFault.TheVariants.{BadLengths, ShortResults}
 
 abbrev pub number_of : Check → ℕ
@@ -32,6 +32,8 @@ number_of (Positions ExercisedNonOption p) = 24
 number_of (Positions FailNonSecurity p) = 25
 number_of (Positions DvpNonSecurity p) = 26
 number_of (Netting NetTooLarge p) = 30
+number_of (Netting DvpTooLarge p) = 31
+number_of (Netting NoSpace p) = 32
 number_of (Netting BadDeposit p) = 50
 number_of (Netting UnlikeMultipliers p) = 51
 number_of (Check.Report f p) = 40

@@ -1,6 +1,6 @@
 -- The position batch: the fields of record r. b is the list of its words.
-use Rattle.std.specs.Prelude.{List, ℕ, ◌+◌, ◌*◌, ◌-◌, ◌/◌, ◌%◌, ℤ, get_or}
-use Rattle.model.specs.Words.{payload, bits, magnitude, amount}
+use Rattle.std.specs.Prelude.{List, ◌∷◌, ℕ, ◌+◌, ◌*◌, ◌-◌, ◌/◌, ◌%◌, ℤ, get_or}
+use Rattle.model.specs.Words.{payload, bits, word, magnitude, amount, amount_words}
 
 abbrev pub batch_header : List ℕ → ℕ
 batch_header b = get_or b 0 0
@@ -49,3 +49,7 @@ dvp_size b r = magnitude (record_word b r 3) (record_word b r 4) (record_word b 
 
 abbrev pub dvp_amount : List ℕ → ℕ → ℤ
 dvp_amount b r = amount (record_word b r 3) (record_word b r 4) (record_word b r 5)
+
+-- the words of a record: key; long and short; DVP
+abbrev pub position_record : ℕ → ℕ → ℕ → ℤ → List ℕ
+position_record p long short z = word 2 p ∷ word 4 long ∷ word 4 short ∷ amount_words z

@@ -13,6 +13,9 @@ pub mod Steps
 pub mod DepositChecks
 pub mod Report
 pub mod Calls
+pub mod Rewriting
+pub mod RewritingChecks
+pub mod RewritingCalls
 pub mod Bytes
 pub mod ManyAccounts
 pub mod Reading
@@ -30,5 +33,6 @@ pub mod ManyFigures
 pub mod AdjustmentFigures
 pub mod DepositFigures
 pub mod OffsetFigures
+pub mod RewritingFigures
 pub mod Ascii
 pub mod Texts

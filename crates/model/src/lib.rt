@@ -89,10 +89,12 @@ pub enum PositionFault {
     DvpNonSecurity = 26,
 }
 
-// Rows 30, 50 and 51.
+// Rows 30, 31, 32, 50 and 51.
 #[derive(Clone, Copy)]
 pub enum NettingFault {
     NetTooLarge = 30,
+    DvpTooLarge = 31,
+    NoSpace = 32,
     BadDeposit = 50,
     UnlikeMultipliers = 51,
 }

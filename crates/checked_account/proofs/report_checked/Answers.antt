@@ -25,7 +25,7 @@ pub check_nets-requires : goal.check_nets-requires
 check_nets-requires c =
     let d = c.args.day.now.words.now in
     let b = c.args.batch.now in
-    record { placed = placed d b (checked_rows d c.args.day.now.checked) (batch_checked d b c.requires); nets_value = c.net_positions.ensures.nets_after }
+    record { placed = placed d b (checked_rows d c.args.day.now.checked) (batch_checked d b c.requires).records; nets_value = c.net_positions.ensures.nets_after }
 
 pub returns-in_err-check_nets : goal.returns-in_err-check_nets
 returns-in_err-check_nets c =
