@@ -1,5 +1,6 @@
 //! A second opinion on the unit: a reckoner written from the papers alone, accounts to try, and the unit's calls.
 pub mod accounts;
+pub mod additions;
 pub mod cases;
 pub mod deposits;
 pub mod editions;
@@ -9,10 +10,12 @@ pub mod layout;
 pub mod many;
 pub mod places;
 pub mod plain;
+pub mod positions;
 pub mod reading;
 pub mod reckoner;
 pub mod records;
 pub mod requests;
+pub mod rewriting;
 pub mod rng;
 pub mod samples;
 pub mod text_reading;

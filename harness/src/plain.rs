@@ -4,6 +4,8 @@ use crate::layout::{
     class_at, series_at, CLASS_WORDS, LONGEST_BATCH, LONGEST_DAY, MOST_RECORDS, OFFSET, SERIES_WORDS, WHOLE_OFFSET,
 };
 
+pub mod rewriting;
+
 /// Entries of a table of nets, one a position.
 pub const NETS: usize = 1024;
 

@@ -8,6 +8,7 @@ use std::path::{Path, PathBuf};
 pub struct Case {
     /// The request, the case's number in its file and the call.
     pub name: String,
+    call: String,
     fields: BTreeMap<String, Vec<u64>>,
 }
 
@@ -59,7 +60,8 @@ pub fn cases(request: &str, count: usize) -> Vec<Case> {
         let name = parts.next().expect("a name");
         if name == "case" {
             assert_eq!(parts.next(), Some(out.len().to_string().as_str()), "{request}: {line}");
-            out.push(Case { name: format!("{request} {line}"), fields: BTreeMap::new() });
+            let call = parts.next().expect("a call").to_string();
+            out.push(Case { name: format!("{request} {line}"), call, fields: BTreeMap::new() });
             continue;
         }
         let numbers = parts.map(|n| n.parse().unwrap_or_else(|e| panic!("{request}: {line}: {e}"))).collect();
@@ -87,10 +89,34 @@ pub fn reports() -> Vec<Case> {
     REPORTS.iter().flat_map(|&(request, count)| report_cases(request, count)).collect()
 }
 
-/// Makes a call over words of such a case: day file, batch, deposits and memory. Its answer and memory must be the case's.
-pub fn check_report(case: &Case, call: impl FnOnce(&[u32], &[u32], &[u32], &mut [u32]) -> Result<usize, Refusal>) {
+/// Makes a call on the case's memory: its answer and what it leaves there must be the case's.
+fn check(case: &Case, call: impl FnOnce(&mut [u32]) -> Result<usize, Refusal>) {
     let mut memory = case.lent("memory");
-    let answer = call(&case.words("day"), &case.words("batch"), &case.words("deposits"), &mut memory);
+    let answer = call(&mut memory);
     assert_eq!(numbers(answer), case.answer(), "{}", case.name);
     assert_eq!(memory, case.memory_after(), "{}", case.name);
+}
+
+/// A case of the call over words: day file, batch, deposits and memory.
+pub fn check_report(case: &Case, call: impl FnOnce(&[u32], &[u32], &[u32], &mut [u32]) -> Result<usize, Refusal>) {
+    check(case, |memory| call(&case.words("day"), &case.words("batch"), &case.words("deposits"), memory));
+}
+
+/// All cases of the calls that rewrite a batch.
+pub fn rewritings() -> Vec<Case> {
+    cases("U07", 135)
+}
+
+/// Such a case: day file, batch and memory, or with a record before the memory.
+pub fn check_rewriting(
+    case: &Case,
+    rewrite: impl FnOnce(&[u32], &[u32], &mut [u32]) -> Result<usize, Refusal>,
+    add_record: impl FnOnce(&[u32], &[u32], &[u32], &mut [u32]) -> Result<usize, Refusal>,
+) {
+    let (day, batch) = (case.words("day"), case.words("batch"));
+    check(case, |memory| match case.call.as_str() {
+        "rewrite" => rewrite(&day, &batch, memory),
+        "add_record" => add_record(&day, &batch, &case.words("record"), memory),
+        _ => panic!("{}: no such call", case.name),
+    });
 }

@@ -1,9 +1,13 @@
 //! The benchmark's baseline against the reckoner: the same answers and memories.
 use harness::accounts::{accepted, account, damage, mixed};
+use harness::additions::mixed_addition;
 use harness::deposits::mixed_case;
+use harness::layout::LONGEST_BATCH;
 use harness::plain::{self, NETS};
 use harness::reckoner::{call_bytes, call_words, to_bytes, Refusal};
+use harness::rewriting::{add_record, rewrite};
 use harness::rng::Rng;
+use std::collections::BTreeSet;
 
 /// An answer as the unit's calls give it.
 fn packed(answer: Result<usize, Refusal>) -> u64 {
@@ -38,6 +42,26 @@ fn baseline_agrees_with_the_reckoner_on_deposits() {
         assert_eq!(plain::call_words(&a.day, &a.batch, &deposits, &mut ours), expected, "case {i}");
         assert_eq!(ours, theirs, "case {i}");
     }
+}
+
+#[test]
+fn baseline_agrees_with_the_reckoner_on_rewritings() {
+    let mut rng = Rng::new(10);
+    let mut numbers = BTreeSet::new();
+    for i in 0..6000 {
+        let (a, record) = mixed_addition(&mut rng, i);
+        let room = if i % 7 == 0 { rng.below(150) as usize } else { LONGEST_BATCH };
+        let (mut ours, mut theirs) = (vec![7; room], vec![7; room]);
+        let rewritten = packed(rewrite(&a.day, &a.batch, &mut theirs));
+        assert_eq!(plain::rewriting::rewrite(&a.day, &a.batch, &mut ours), rewritten, "case {i}");
+        assert_eq!(ours, theirs, "case {i}");
+        let added = packed(add_record(&a.day, &a.batch, &record, &mut theirs));
+        assert_eq!(plain::rewriting::add_record(&a.day, &a.batch, &record, &mut ours), added, "case {i}");
+        assert_eq!(ours, theirs, "case {i}");
+        numbers.extend([rewritten >> 32, added >> 32]);
+    }
+    let table = [0, 10, 11, 12, 13, 14, 15, 16, 17, 20, 21, 22, 23, 24, 25, 26, 27, 28, 30, 31, 32, 40];
+    assert_eq!(numbers.into_iter().collect::<Vec<_>>(), table);
 }
 
 #[test]

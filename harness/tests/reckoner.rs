@@ -1,6 +1,7 @@
 //! The reckoner against the vectors.
 use harness::reckoner::{call_bytes, call_words, reckon, text, to_words};
-use harness::requests::{check_report, reports};
+use harness::requests::{check_report, check_rewriting, reports, rewritings};
+use harness::rewriting::{add_record, rewrite};
 use harness::vectors::vectors;
 
 #[test]
@@ -16,5 +17,8 @@ fn agrees_with_the_vectors() {
 fn agrees_with_the_cases_of_requests() {
     for case in reports() {
         check_report(&case, call_words);
+    }
+    for case in rewritings() {
+        check_rewriting(&case, rewrite, add_record);
     }
 }

@@ -1,7 +1,7 @@
 //! The calls that rewrite a batch: one record for each position that is held, of the batch alone or with a record added to it.
+use crate::layout::MOST_RECORDS;
 use crate::reckoner::{
     check_length, net, push_amount, read_day, read_records, refuse, write, DayFile, Key, Position, Refusal, MOST_DVP,
-    MOST_RECORDS,
 };
 use crate::records::batch_of;
 

@@ -1,9 +1,6 @@
-//! A batch rewritten, with a record added to it too.
-use super::{check_and_net, packed, put_amount, read_day, record_count, Day, Refused, NETS};
-
-/// Records of a batch, and words of the longest one that another is added to.
-const MOST: usize = 256;
-const LONGEST_WITH: usize = 1 + 6 * (MOST + 1);
+//! A batch rewritten, with a record added too.
+use super::{check_and_net, packed, put_amount, read_day, record_count, Day, Refused, MOST_DVP, NETS};
+use crate::layout::{LONGEST_BATCH, MOST_RECORDS};
 
 /// Rows 22 to 40 over so many records, one more than a batch has at the most; the length of the rewriting, which is written.
 fn rewritten(day: &Day, batch: &[u32], records: usize, out: &mut [u32]) -> Result<usize, Refused> {
@@ -11,11 +8,11 @@ fn rewritten(day: &Day, batch: &[u32], records: usize, out: &mut [u32]) -> Resul
     check_and_net(day, batch, records, &mut nets, &mut dvps)?;
     for r in 0..records {
         let k = (batch[1 + 6 * r] & 1023) as usize;
-        if dvps[k].abs() > 5_000_000_000_000_000 {
+        if dvps[k].abs() > MOST_DVP {
             return Err((31, r));
         }
     }
-    let (mut held, mut count) = ([0; MOST + 1], 0);
+    let (mut held, mut count) = ([0; MOST_RECORDS + 1], 0);
     for s in 0..day.series {
         // open, exercised, fail: no series has the last two
         for k in [s, s + 256, s + 512] {
@@ -25,7 +22,7 @@ fn rewritten(day: &Day, batch: &[u32], records: usize, out: &mut [u32]) -> Resul
             }
         }
     }
-    if count > MOST {
+    if count > MOST_RECORDS {
         return Err((32, 0));
     }
     let needed = 1 + 6 * count;
@@ -54,7 +51,7 @@ fn with_record(day: &[u32], batch: &[u32], record: &[u32], out: &mut [u32]) -> R
     if record.len() != 6 {
         return Err((21, 0));
     }
-    let mut joined = [0; LONGEST_WITH];
+    let mut joined = [0; LONGEST_BATCH + 6];
     let joined = &mut joined[..batch.len() + 6];
     joined[..batch.len()].copy_from_slice(batch);
     joined[batch.len()..].copy_from_slice(record);
