@@ -1,6 +1,8 @@
 //! A second opinion on the unit: a reckoner written from the papers alone, accounts to try, and the unit's calls.
 pub mod accounts;
 pub mod additions;
+#[cfg(feature = "unit")]
+pub mod beside;
 pub mod cases;
 pub mod deposits;
 pub mod editions;

@@ -27,6 +27,17 @@ extern "C" {
         report: *mut u32,
         report_len: usize,
     ) -> u64;
+    fn mars_rewrite(day: *const u32, day_len: usize, batch: *const u32, batch_len: usize, out: *mut u32, out_len: usize) -> u64;
+    fn mars_add_record(
+        day: *const u32,
+        day_len: usize,
+        batch: *const u32,
+        batch_len: usize,
+        record: *const u32,
+        record_len: usize,
+        out: *mut u32,
+        out_len: usize,
+    ) -> u64;
     fn mars_read_text(text: *const u8, text_len: usize, ordinary: *mut i64, fail: *mut i64, account: *mut i64) -> u64;
 }
 
@@ -84,6 +95,31 @@ pub fn call_all(
             lengths.len(),
             results.as_mut_ptr(),
             entries,
+            memory.as_mut_ptr(),
+            room,
+        )
+    })
+}
+
+/// A batch rewritten: the length of the rewriting in words, or the refusal.
+pub fn rewrite(day: &[u32], batch: &[u32], memory: &mut [u32]) -> Result<usize, Refusal> {
+    let room = memory.len();
+    // No precondition: any two slices of words to read and any one to write, which overlaps neither.
+    parts(unsafe { mars_rewrite(day.as_ptr(), day.len(), batch.as_ptr(), batch.len(), memory.as_mut_ptr(), room) })
+}
+
+/// The same of the batch with this record as its last.
+pub fn add_record(day: &[u32], batch: &[u32], record: &[u32], memory: &mut [u32]) -> Result<usize, Refusal> {
+    let room = memory.len();
+    // No precondition: any three slices of words to read and any one to write, which overlaps none of them.
+    parts(unsafe {
+        mars_add_record(
+            day.as_ptr(),
+            day.len(),
+            batch.as_ptr(),
+            batch.len(),
+            record.as_ptr(),
+            record.len(),
             memory.as_mut_ptr(),
             room,
         )
