@@ -1,5 +1,7 @@
 //! Records to add to an account's batch, and records damaged so that a row refuses them.
-use crate::accounts::{account, amount_words, damage, damage_word, mixed, word, Account, LARGEST, SMALL, TYPICAL, WORD_WAYS};
+use crate::accounts::{
+    account, amount_words, damage, damage_word, mixed, word, Account, Size, LARGEST, SMALL, TYPICAL, WORD_WAYS,
+};
 use crate::layout::MOST_RECORDS;
 use crate::positions::{keys, next_record, traded, with_positions};
 use crate::records::records_of;
@@ -35,7 +37,10 @@ fn damage_addition(rng: &mut Rng, record: &mut Vec<u32>) {
 pub fn mixed_addition(rng: &mut Rng, i: usize) -> (Account, Vec<u32>) {
     let mut a = match i % 8 {
         0 | 1 => account(rng, mixed(i / 8)),
-        2 => with_positions(rng, LARGEST, MOST_RECORDS - i / 8 % 4, MOST_RECORDS - i / 8 % 2),
+        2 => {
+            let size = Size { classes: rng.within(1, LARGEST.classes), ..LARGEST };
+            with_positions(rng, size, MOST_RECORDS - i / 8 % 4, MOST_RECORDS - i / 8 % 2)
+        }
         3 => traded(rng, if i % 5 == 0 { LARGEST } else { TYPICAL }),
         _ => traded(rng, SMALL),
     };

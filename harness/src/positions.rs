@@ -65,10 +65,9 @@ pub fn traded(rng: &mut Rng, size: Size) -> Account {
 
 /// An account of so many positions and records, all held but those that a later record closes; its day file is of this size.
 pub fn with_positions(rng: &mut Rng, size: Size, positions: usize, records: usize) -> Account {
-    let classes = rng.within(1, size.classes) as usize;
     let (mut day, mut keys) = (Vec::new(), Vec::new());
     while keys.len() < positions {
-        day = day_file(rng, classes, size.series as usize);
+        day = day_file(rng, size.classes as usize, size.series as usize);
         keys = self::keys(&day);
     }
     rng.shuffle(&mut keys);

@@ -1,5 +1,5 @@
 //! The calls that rewrite a batch against the reckoner: answer and every word of the memory.
-use harness::accounts::{Account, LARGEST, SMALL, TYPICAL};
+use harness::accounts::{Account, Size, LARGEST, SMALL, TYPICAL};
 use harness::additions::{addition, mixed_addition};
 use harness::beside::{compare, rewritten, room};
 use harness::layout::{LONGEST_BATCH, MOST_RECORDS};
@@ -82,7 +82,8 @@ fn full_batches() {
     // by the records of the batch, of its rewriting and of the rewriting with the record; none where space lacks
     let mut counts: BTreeMap<(usize, usize, Option<usize>), usize> = BTreeMap::new();
     for i in 0..3000 {
-        let a = with_positions(&mut rng, LARGEST, MOST_RECORDS - i % 3, MOST_RECORDS - i / 3 % 3);
+        let size = Size { classes: rng.within(1, LARGEST.classes), ..LARGEST };
+        let a = with_positions(&mut rng, size, MOST_RECORDS - i % 3, MOST_RECORDS - i / 3 % 3);
         let Some(held) = rewritten(&a).map(|words| records_of(&words)) else { continue };
         let record = addition(&mut rng, &a);
         let after = match compare(&a, Some(&record), LONGEST_BATCH, &mut fill, &format!("case {i}")) {

@@ -1,13 +1,17 @@
-//! The unit's calls timed in one run beside others that do the same work: the byte call, the call over words, with deposits too, and
-//! netting alone beside plain Rust, all accounts of a broker in one call beside as many byte calls. Fails where a ratio is above its limit.
+//! The unit's calls timed in one run beside others that do the same work: the byte call, the call over words, with deposits too, a batch
+//! rewritten, with a record added too, and netting alone beside plain Rust, all accounts of a broker in one call beside as many byte calls.
+//! Fails where a ratio is above its limit.
 //! From the top folder: `host/library.sh mars netting_times`; here `cargo run --release --features bench --bin bench`.
 use harness::accounts::{accepted, batch, Account, Size, LARGEST, TYPICAL};
 use harness::cases::LONGEST;
 use harness::deposits::half_covered;
+use harness::layout::{LONGEST_BATCH, MOST_RECORDS};
 use harness::many::joined;
 use harness::places::{Placed, Places};
 use harness::plain::{self, NETS};
-use harness::reckoner::{reckon, to_bytes};
+use harness::positions::with_positions;
+use harness::reckoner::{reckon, to_bytes, Refusal};
+use harness::rewriting;
 use harness::rng::Rng;
 use harness::timing::{Call, Times};
 use harness::unit;
@@ -37,7 +41,7 @@ impl Figure {
         let [from, ratio, to] = c.ratios;
         let half = format!("{from:.3} to {to:.3}");
         let limit = self.limit.map_or(String::new(), |l| l.to_string());
-        println!("{:<56}{a:>8}{b:>9}{:>7.3}{:>7.3}{half:>16}{limit:>6}", self.name, ratio, c.lower);
+        println!("{:<62}{a:>8}{b:>9}{:>7.3}{:>7.3}{half:>16}{limit:>6}", self.name, ratio, c.lower);
         self.limit.is_none_or(|l| ratio <= l)
     }
 }
@@ -73,34 +77,70 @@ fn byte_call(name: &str, size: Size) -> Figure {
     })
 }
 
-/// The call over words beside plain Rust.
-fn word_call(name: String, limit: Option<f64>, (a, deposits): (Account, Vec<u32>)) -> Figure {
-    let mut report = [0; LONGEST];
-    unit::call_words(&a.day, &a.batch, &deposits, &mut report).expect("accepted");
+/// A call over words beside plain Rust: both read an account and more words, deposits or a record, and write a memory that holds the longest
+/// batch, which is longer than a report.
+fn word_call(
+    name: String,
+    limit: Option<f64>,
+    (a, more): (Account, Vec<u32>),
+    unit: impl Fn(&[u32], &[u32], &[u32], &mut [u32]) -> Result<usize, Refusal> + 'static,
+    plain: impl Fn(&[u32], &[u32], &[u32], &mut [u32]) -> u64 + 'static,
+) -> Figure {
+    let mut expected = [0; LONGEST_BATCH];
+    unit(&a.day, &a.batch, &more, &mut expected).expect("accepted");
     Figure::new(name, limit, move |places, times| {
-        let [day, batch, deposits] = [&a.day, &a.batch, &deposits].map(|content| places.memory(content));
-        let [mut ours, mut theirs] = [(); 2].map(|_| places.memory(&[0; LONGEST]));
+        let [day, batch, more] = [&a.day, &a.batch, &more].map(|content| places.memory(content));
+        let [mut ours, mut theirs] = [(); 2].map(|_| places.memory(&[0; LONGEST_BATCH]));
         let mut unit_call = || {
-            black_box(unit::call_words(black_box(&day), black_box(&batch), black_box(&deposits), black_box(&mut ours))).ok();
+            black_box(unit(black_box(&day), black_box(&batch), black_box(&more), black_box(&mut ours))).ok();
         };
         let mut plain_call = || {
-            black_box(plain::call_words(black_box(&day), black_box(&batch), black_box(&deposits), black_box(&mut theirs)));
+            black_box(plain(black_box(&day), black_box(&batch), black_box(&more), black_box(&mut theirs)));
         };
         times.round(places, [Call(1, &mut unit_call), Call(1, &mut plain_call)]);
-        assert!(*ours == report && *theirs == report, "a report differs");
+        assert!(*ours == expected && *theirs == expected, "a memory differs");
     })
 }
 
 /// Without deposits, which must cost nothing.
 fn no_deposits(name: &str, size: Size) -> Figure {
-    word_call(format!("words, {name}, no deposits : plain Rust"), None, (account(size), Vec::new()))
+    let name = format!("words, {name}, no deposits : plain Rust");
+    word_call(name, None, (account(size), Vec::new()), unit::call_words, plain::call_words)
 }
 
 /// A deposit for each of so many classes, which have 256 futures in all.
 fn deposits(classes: u32, limit: Option<f64>) -> Figure {
     let futures = 256 / classes;
     let name = format!("words, deposits for {classes} x {futures} futures : plain Rust");
-    word_call(name, limit, half_covered(&mut Rng::new(5), classes, futures))
+    word_call(name, limit, half_covered(&mut Rng::new(5), classes, futures), unit::call_words, plain::call_words)
+}
+
+/// An account of so many positions and 256 records that can be rewritten, its day file of this size.
+fn rewritable(size: Size, positions: usize) -> Account {
+    let mut rng = Rng::new(7);
+    loop {
+        let a = with_positions(&mut rng, size, positions, MOST_RECORDS);
+        if rewriting::rewrite(&a.day, &a.batch, &mut [0; LONGEST_BATCH]).is_ok() {
+            return a;
+        }
+    }
+}
+
+/// A batch of 256 records on so many positions rewritten.
+fn rewritten(name: &str, size: Size, positions: usize, limit: Option<f64>) -> Figure {
+    let name = format!("rewrite, {name}, {MOST_RECORDS} records on {positions} positions : plain Rust");
+    let unit = |day: &[u32], batch: &[u32], _: &[u32], out: &mut [u32]| unit::rewrite(day, batch, out);
+    let plain = |day: &[u32], batch: &[u32], _: &[u32], out: &mut [u32]| plain::rewriting::rewrite(day, batch, out);
+    word_call(name, limit, (rewritable(size, positions), Vec::new()), unit, plain)
+}
+
+/// The last record of such a batch added to the 255 before it.
+fn added(name: &str, size: Size, positions: usize) -> Figure {
+    let mut a = rewritable(size, positions);
+    let record = a.batch.split_off(a.batch.len() - 6);
+    a.batch[0] -= 1;
+    let name = format!("add, {name}, the last of {MOST_RECORDS} on {positions} positions : plain Rust");
+    word_call(name, None, (a, record), unit::add_record, plain::rewriting::add_record)
 }
 
 /// 64 accounts of one day file in one call, beside a byte call for each.
@@ -191,6 +231,11 @@ fn main() {
         deposits(64, Some(2.0)),
         deposits(16, Some(2.0)),
         deposits(1, None),
+        rewritten("largest", LARGEST, 256, Some(1.5)),
+        rewritten("typical", TYPICAL, 40, Some(1.5)),
+        rewritten("largest", LARGEST, 4, Some(1.5)),
+        added("largest", LARGEST, 256),
+        added("typical", TYPICAL, 40),
         all_accounts("typical", TYPICAL, Some(0.8)),
         all_accounts("largest", LARGEST, None),
         netting(&format!("netting of {records} records : plain Rust, one table"), 10.0, 1, one_table),
@@ -205,7 +250,7 @@ fn main() {
     }
     println!("A : B in turns, {ROUNDS} rounds: medians in nanoseconds; the median of the turns' ratios; the ratio of the lower quartiles;");
     println!("between what half of the turns' ratios lie; the highest median of them that passes");
-    println!("{:<56}{:>8}{:>9}{:>7}{:>7}{:>16}{:>6}", "", "A", "B", "ratio", "lower", "half of turns", "limit");
+    println!("{:<62}{:>8}{:>9}{:>7}{:>7}{:>16}{:>6}", "", "A", "B", "ratio", "lower", "half of turns", "limit");
     let above: Vec<&str> = figures.iter().filter(|f| !f.passes()).map(|f| f.name.as_str()).collect();
     assert!(above.is_empty(), "above the limit: {above:?}");
 }
