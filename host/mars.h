@@ -9,7 +9,8 @@
  * are in percent: its 85 reads as 0.85 percent.
  *
  * All three memories are runs of 32-bit words, low byte first. Over arrays of uint32_t, mars_report_words does the same and
- * takes deposits of shares against short futures, and mars_reports does it for many batches in one call.
+ * takes deposits of shares against short futures, and mars_reports does it for many batches in one call. mars_rewrite makes
+ * of a batch the one with a record for each position, and mars_add_record the same with a record added.
  */
 #ifndef MARS_H
 #define MARS_H
@@ -23,7 +24,7 @@ extern "C" {
 
 /* The longest forms, in bytes. A report memory of MARS_REPORT_BYTES is always long enough. */
 #define MARS_DAY_BYTES 20484    /* 1 + 20 x 64 + 15 x 256 words */
-#define MARS_BATCH_BYTES 6148   /* 1 + 6 x 256 words */
+#define MARS_BATCH_BYTES 6148   /* 1 + 6 x 256 words; also the longest rewriting */
 #define MARS_REPORT_BYTES 4460  /* 13 + 19 x 58 words */
 
 /*
@@ -105,6 +106,47 @@ uint64_t mars_reports(const uint32_t *day, size_t day_len, const uint32_t *batch
                       size_t report_len);
 
 /*
+ * Rewrites a batch with one record for each position whose net or DVP is not 0. Its report is the batch's, and its rewriting
+ * is itself.
+ *
+ * day, batch   The files' words.
+ * out          The rewriting: the header, then the records by series place, open before exercised, ordinary before fail. A
+ *              net long stands in the record's long quantity, a net short in its short quantity, and the other one is 0; both
+ *              are where only DVP is left. The DVP amount is the sum of the position's. Words past the rewriting remain.
+ *              MARS_BATCH_BYTES / 4 words are always enough.
+ * *_len        Lengths in words. Any length is allowed, zero too.
+ * Pointers     Not NULL, not even with length zero; aligned as a uint32_t. out overlaps nothing, so that a batch is not
+ *              rewritten in its own place; the two that are read may overlap each other, and nothing may write to them while
+ *              the call runs.
+ *
+ * Result       mars_number is 0, and mars_value the words written (1 + 6 x records).
+ *              Otherwise mars_number is that of a refusal of mars_report over words, or MARS_DVP_LIMIT, and mars_value its
+ *              place; of MARS_SHORT_REPORT, here of out, the words needed. out is then unchanged.
+ *
+ * Threads      The call keeps no state. It may run in any threads at once as long as their memories out are distinct.
+ */
+uint64_t mars_rewrite(const uint32_t *day, size_t day_len, const uint32_t *batch, size_t batch_len, uint32_t *out,
+                      size_t out_len);
+
+/*
+ * Adds a record to a batch: rewrites the batch with that record as its last.
+ *
+ * day, batch   The files' words; a batch of 256 records too.
+ * record       MARS_RECORD_WORDS words, as a record in a batch has them (enum mars_field). It may overlap day and batch.
+ * out          As of mars_rewrite.
+ * *_len, Pointers, Threads
+ *              As of mars_rewrite.
+ *
+ * Result       As of mars_rewrite; also MARS_BATCH_LENGTH, place 0, where record_len is not MARS_RECORD_WORDS, and
+ *              MARS_NO_SPACE. The record is checked with the batch's: where it is refused, the place is the one that it would
+ *              have as their last, record P or words 1 + 6P to 6 + 6P behind P records. MARS_BATCH_HEADER looks at the batch
+ *              alone.
+ */
+#define MARS_RECORD_WORDS 6
+uint64_t mars_add_record(const uint32_t *day, size_t day_len, const uint32_t *batch, size_t batch_len,
+                         const uint32_t *record, size_t record_len, uint32_t *out, size_t out_len);
+
+/*
  * Reads back a text that the report program printed.
  *
  * text         Read during the call only, never written or kept. Any bytes are allowed.
@@ -125,9 +167,10 @@ uint64_t mars_reports(const uint32_t *day, size_t day_len, const uint32_t *batch
 uint64_t mars_read_text(const uint8_t *text, size_t text_len, int64_t *ordinary, int64_t *fail, int64_t *account);
 
 /* Refusals in the order in which they are tried, each over all records, words or deposits before the next: the first two by
- * mars_report alone, those of deposits by mars_report_words alone, the last two by mars_reports alone, before all others. */
+ * mars_report alone, MARS_DVP_LIMIT by mars_rewrite and mars_add_record, MARS_NO_SPACE by mars_add_record alone, those of
+ * deposits by mars_report_words alone, the last two by mars_reports alone, before all others. */
 enum mars_refusal {
-    MARS_REPORT = 0,            /* no refusal: a report was written */
+    MARS_REPORT = 0,            /* no refusal: a report, or a rewriting, was written */
     MARS_DAY_BYTES_BAD = 1,     /* day file's length is no multiple of 4, or exceeds the longest form */
     MARS_BATCH_BYTES_BAD = 2,   /* the same of the batch */
     MARS_DAY_HEADER = 10,       /* day header: no words, wrong kind, spare bits, too many classes or series */
@@ -139,7 +182,7 @@ enum mars_refusal {
     MARS_SERIES_ORDER = 16,     /* key, then strike, not above the series before */
     MARS_SERIES_TYPE = 17,      /* type unknown, or serial, strike, expiry or adjustment not 0 where the type has none */
     MARS_BATCH_HEADER = 20,     /* batch header: no words, wrong kind, too many records */
-    MARS_BATCH_LENGTH = 21,     /* batch's length does not follow from its header */
+    MARS_BATCH_LENGTH = 21,     /* batch's length does not follow from its header, or a record to add is not of six words */
     MARS_BATCH_KIND = 22,       /* a word of a record: wrong kind; place: word, here and in the two below */
     MARS_BATCH_RANGE = 27,      /* spare bit or out of range; of an amount its first word */
     MARS_BATCH_MINUS_ZERO = 28, /* an amount of minus zero: its first word */
@@ -148,9 +191,11 @@ enum mars_refusal {
     MARS_POSITION_FAIL = 25,    /* a fail, and not a security */
     MARS_POSITION_DVP = 26,     /* DVP amount not 0, and not a security */
     MARS_NET_LIMIT = 30,        /* a position's net x multiplier above 10,000,000; place: its first record */
+    MARS_DVP_LIMIT = 31,        /* a position's DVP sum above that of a record; place: its first record, also with net 0 */
+    MARS_NO_SPACE = 32,         /* with the record added there are more than 256 positions; place 0 */
     MARS_DEPOSIT = 50,          /* odd number of words (place 0, first); class unknown or named before, or too many shares */
     MARS_UNLIKE_MULTIPLIERS = 51, /* the class's futures have unlike multipliers; place: deposit, here and above */
-    MARS_SHORT_REPORT = 40,     /* report memory too short; the value is the words needed */
+    MARS_SHORT_REPORT = 40,     /* report memory, or out, too short; the value is the words needed */
     MARS_ACCOUNT_LENGTHS = 60,  /* more than 64 accounts, or lengths that do not add up to the words given */
     MARS_SHORT_RESULTS = 61     /* result list shorter than two numbers an account */
 };

@@ -1,5 +1,6 @@
 /* Calls at the edges: unaligned and empty inputs, short memories, memories at the border of inaccessible pages, threads;
- * bad words of a batch by record and field; many accounts in one call; deposits; printed texts read back. */
+ * bad words of a batch by record and field; many accounts in one call; deposits; batches rewritten and records added; printed texts
+ * read back. */
 #define _DEFAULT_SOURCE
 #include "mars.h"
 
@@ -288,19 +289,22 @@ static void accounts(void) {
     free((void *)own.batch);
 }
 
-/* ---- deposits */
+/* ---- calls that read three runs of words and write one */
 
 struct words {
     uint32_t *at;
     size_t length;
 };
 
-/* One call with each memory at the end of its pages, the inputs read-only. The report is left in `report`; words that the call may not
+typedef uint64_t words_call(const uint32_t *, size_t, const uint32_t *, size_t, const uint32_t *, size_t, uint32_t *, size_t);
+
+/* One call with each memory at the end of its pages, the inputs read-only. What is written is left in `out`; words that the call may not
  * write must stay. */
-static uint64_t deposited(struct words d, struct words b, struct words deposits, uint32_t *report, size_t room, const char *what) {
+static uint64_t over_words(words_call *call, struct words d, struct words b, struct words more, uint32_t *out, size_t room,
+                           const char *what) {
     static uint8_t *pages[4];
     size_t length = 16 * (size_t)sysconf(_SC_PAGESIZE);
-    struct words given[3] = {d, b, deposits};
+    struct words given[3] = {d, b, more};
     uint32_t *at[3];
     for (int i = 0; i < 4; i++)
         if (pages[i] == NULL) pages[i] = fenced(length);
@@ -312,13 +316,19 @@ static uint64_t deposited(struct words d, struct words b, struct words deposits,
     }
     uint32_t *memory = (uint32_t *)(pages[3] + length) - room, *from = memory - GUARD;
     for (size_t i = 0; i < GUARD + room; i++) from[i] = (uint32_t)i * 7 + 13;
-    uint64_t result = mars_report_words(at[0], d.length, at[1], b.length, at[2], deposits.length, memory, room);
+    uint64_t result = call(at[0], d.length, at[1], b.length, at[2], more.length, memory, room);
     size_t written = mars_number(result) == MARS_REPORT ? mars_value(result) : 0;
     check(written <= room, what, room);
     for (size_t i = 0; i < GUARD + room; i++)
         if (i < GUARD || i >= GUARD + written) check(from[i] == (uint32_t)i * 7 + 13, what, i);
-    memcpy(report, memory, 4 * written);
+    memcpy(out, memory, 4 * written);
     return result;
+}
+
+/* ---- deposits */
+
+static uint64_t deposited(struct words d, struct words b, struct words deposits, uint32_t *report, size_t room, const char *what) {
+    return over_words(mars_report_words, d, b, deposits, report, room, what);
 }
 
 /* M1's futures, at multiplier 5: March 15 and December 13 short, June 14 and September 19 long. */
@@ -378,6 +388,150 @@ static void deposits(const char *folder) {
     free(b.at);
     free(day_file.bytes);
     free(batch_file.bytes);
+}
+
+/* ---- batches rewritten, records added */
+
+#define LONGEST_BATCH (MARS_BATCH_BYTES / 4)
+#define MOST_DVP 5000000000000000
+#define EXERCISED (1u << 8)
+#define FAIL (1u << 9)
+
+/* With no record. */
+static uint64_t rewrite(const uint32_t *d, size_t d_len, const uint32_t *b, size_t b_len, const uint32_t *record, size_t record_len,
+                        uint32_t *out, size_t out_len) {
+    (void)record;
+    (void)record_len;
+    return mars_rewrite(d, d_len, b, b_len, out, out_len);
+}
+
+/* Two classes of 128 shares, all prices 0. */
+static struct words shares(void) {
+    static uint32_t at[1 + 20 * 2 + 15 * 256];
+    uint32_t *w = at;
+    *w++ = 1u << 29 | 2u | 256u << 7;
+    for (uint32_t c = 0; c < 2; c++, w += 20) {
+        for (size_t i = 1; i < 20; i++) w[i] = (i == 9 ? 4u : 3u) << 29;
+        w[0] = 2u << 29 | c << 5;
+    }
+    for (uint32_t s = 0; s < 256; s++, w += 15) {
+        for (size_t i = 2; i < 15; i++) w[i] = 3u << 29;
+        w[0] = 2u << 29 | s % 128 | 4u << 19 | s / 128 << 23;
+        w[1] = 4u << 29 | 1u;
+    }
+    return (struct words){at, sizeof at / 4};
+}
+
+/* A record's words. */
+static struct words record(uint32_t key, uint32_t bought, uint32_t sold, int64_t dvp) {
+    static uint32_t at[MARS_RECORD_WORDS];
+    uint64_t size = dvp < 0 ? 0 - (uint64_t)dvp : (uint64_t)dvp;
+    at[MARS_KEY] = 2u << 29 | key;
+    at[MARS_LONG] = 4u << 29 | bought;
+    at[MARS_SHORT] = 4u << 29 | sold;
+    at[MARS_DVP_HIGH] = 5u << 29 | (uint32_t)(dvp < 0) << 28 | (uint32_t)(size >> 58);
+    at[MARS_DVP_MIDDLE] = 6u << 29 | (uint32_t)(size >> 29 & 0x1fffffffu);
+    at[MARS_DVP_LOW] = 6u << 29 | (uint32_t)(size & 0x1fffffffu);
+    return (struct words){at, MARS_RECORD_WORDS};
+}
+
+/* The record as the last of the batch, whose memory has space for it. */
+static void append(struct words *b, struct words record) {
+    memcpy(b->at + b->length, record.at, 4 * record.length);
+    b->length += record.length;
+    b->at[0] = 1u << 29 | (uint32_t)(b->length / MARS_RECORD_WORDS);
+}
+
+/* The call must write these words wherever they fit. */
+static void gives(words_call *call, struct words b, struct words more, struct words expected, const char *what) {
+    static uint32_t out[LONGEST_BATCH + 10];
+    for (size_t room = 0; room < expected.length + 10; room++) {
+        uint64_t result = over_words(call, shares(), b, more, out, room, what);
+        int fits = room >= expected.length;
+        check(result == (fits ? expected.length : refusal(MARS_SHORT_REPORT, (uint32_t)expected.length)), what, room);
+        if (fits) check(memcmp(out, expected.at, 4 * expected.length) == 0, what, room);
+    }
+}
+
+/* The call must be refused so, with and without memory. */
+static void refuses(words_call *call, struct words b, struct words more, uint32_t number, uint32_t place, const char *what) {
+    static uint32_t out[LONGEST_BATCH];
+    for (size_t room = 0; room <= LONGEST_BATCH; room += LONGEST_BATCH)
+        check(over_words(call, shares(), b, more, out, room, what) == refusal(number, place), what, room);
+}
+
+static void rewritings(void) {
+    static uint32_t of_traded[LONGEST_BATCH], of_held[LONGEST_BATCH], of_more[LONGEST_BATCH];
+    struct words none = {of_traded, 0}, traded = {of_traded, 1}, held = {of_held, 1}, more = {of_more, 1};
+    of_traded[0] = of_held[0] = of_more[0] = 1u << 29;
+    gives(rewrite, traded, none, held, "rewrite: no records");
+    refuses(rewrite, none, none, MARS_BATCH_HEADER, 0, "rewrite: no batch");
+    refuses(mars_add_record, none, none, MARS_BATCH_HEADER, 0, "add: no batch");
+    refuses(mars_add_record, traded, none, MARS_BATCH_LENGTH, 0, "add: no record");
+
+    append(&traded, record(9, 7, 0, 0));
+    append(&traded, record(5 | FAIL, 0, 2, 0));
+    append(&traded, record(9, 0, 7, -10));
+    append(&traded, record(3, 4, 4, 0));
+    append(&traded, record(5, 8, 1, 3));
+    append(&held, record(5, 7, 0, 3));
+    append(&held, record(5 | FAIL, 0, 2, 0));
+    append(&held, record(9, 0, 0, -10));
+    gives(rewrite, traded, none, held, "rewrite: five records become three");
+    gives(rewrite, held, none, held, "rewrite: twice");
+    append(&more, record(5, 7, 0, 3));
+    append(&more, record(5 | FAIL, 0, 2, 0));
+    append(&more, record(8, 0, 1, 0));
+    append(&more, record(9, 0, 0, -10));
+    gives(mars_add_record, traded, record(8, 0, 1, 0), more, "add: another position");
+    gives(mars_add_record, held, record(8, 0, 1, 0), more, "add: to the rewriting");
+    more.length = 1 + MARS_RECORD_WORDS;
+    append(&more, record(5 | FAIL, 0, 2, 0));
+    gives(mars_add_record, traded, record(9, 0, 0, 10), more, "add: a position that is gone");
+    /* the record may stand in the batch */
+    static uint32_t from_copy[LONGEST_BATCH], from_batch[LONGEST_BATCH];
+    struct words own = {traded.at + traded.length - MARS_RECORD_WORDS, MARS_RECORD_WORDS};
+    uint64_t result = over_words(mars_add_record, shares(), traded, own, from_copy, LONGEST_BATCH, "add: a copy");
+    check(result == held.length, "add: a copy", 0);
+    check(mars_add_record(shares().at, shares().length, traded.at, traded.length, own.at, own.length, from_batch, LONGEST_BATCH) == result,
+          "add: the batch's own record", 0);
+    check(memcmp(from_copy, from_batch, 4 * (size_t)mars_value(result)) == 0, "add: the batch's own record", 1);
+
+    /* a record of the wrong length; one that is refused, by its place behind the five */
+    for (size_t length = 0; length <= 2 * MARS_RECORD_WORDS; length++) {
+        uint32_t twice[2 * MARS_RECORD_WORDS];
+        memcpy(twice, record(8, 0, 1, 0).at, sizeof twice / 2);
+        memcpy(twice + MARS_RECORD_WORDS, twice, sizeof twice / 2);
+        if (length != MARS_RECORD_WORDS)
+            refuses(mars_add_record, traded, (struct words){twice, length}, MARS_BATCH_LENGTH, 0, "add: length");
+    }
+    refuses(mars_add_record, traded, record(8, 0, 10000001, 0), MARS_BATCH_RANGE, 1 + 6 * 5 + MARS_SHORT, "add: a word");
+    refuses(mars_add_record, traded, record(8 | EXERCISED, 1, 0, 0), MARS_POSITION_EXERCISE, 5, "add: a record");
+    refuses(mars_add_record, traded, record(5 | FAIL, 0, 10000000, 0), MARS_NET_LIMIT, 1, "add: row 30");
+
+    /* a DVP sum at the limit and above it, of a position whose net is 0 */
+    append(&traded, record(9, 1, 1, -MOST_DVP + 10));
+    held.length -= MARS_RECORD_WORDS;
+    append(&held, record(9, 0, 0, -MOST_DVP));
+    gives(rewrite, traded, none, held, "rewrite: at row 31's limit");
+    refuses(mars_add_record, traded, record(9, 0, 0, -1), MARS_DVP_LIMIT, 0, "add: row 31");
+    append(&traded, record(9, 0, 0, -1));
+    refuses(rewrite, traded, none, MARS_DVP_LIMIT, 0, "rewrite: row 31");
+
+    /* 256 shares bought, and the figures of an addition to them */
+    traded.length = 1;
+    for (uint32_t s = 0; s < 256; s++) append(&traded, record(s, 1, 0, 0));
+    gives(rewrite, traded, none, traded, "rewrite: 256 positions");
+    refuses(mars_add_record, traded, record(3 | FAIL, 1, 0, 0), MARS_NO_SPACE, 0, "add: row 32");
+    gives(mars_add_record, traded, record(3 | FAIL, 1, 1, 0), traded, "add: nothing to 256 positions");
+    refuses(mars_add_record, traded, record(3, 10000001, 0, 0), MARS_BATCH_RANGE, 1538, "add: a word to 256 records");
+    refuses(mars_add_record, traded, record(3 | EXERCISED, 1, 0, 0), MARS_POSITION_EXERCISE, 256, "add: a record to 256");
+    held.length = 1;
+    for (uint32_t s = 0; s < 256; s++)
+        if (s != 3) append(&held, record(s, 1, 0, 0));
+    gives(mars_add_record, traded, record(3, 0, 1, 0), held, "add: one of 256 positions gone");
+    of_traded[0]++;
+    refuses(mars_add_record, traded, record(3, 1, 0, 0), MARS_BATCH_HEADER, 0, "add: a header of 257 records");
 }
 
 /* ---- texts */
@@ -488,6 +642,7 @@ int main(int argc, char **argv) {
     threads();
     accounts();
     deposits(argv[2]);
+    rewritings();
     texts();
     free(day.bytes);
     free(batch.bytes);
