@@ -1,10 +1,10 @@
 // The records of the positions held, written from tables of nets and DVPs: one for each, in their order.
 #![tactic(auto)]
 
-ghost use Rattle.std.specs.Prelude.{◌≡◌, ◌≤◌, ◌<◌, ◌^◌, ◌++◌, nat_abs, length, drop, get_or, pos};
+ghost use Rattle.std.specs.Prelude.{◌≡◌, ◌≤◌, ◌<◌, ◌^◌, ◌++◌, nat_abs, length, drop};
 ghost use Rattle.numbers.specs.Table.{entry};
 ghost use Rattle.model.specs.Limits.{quantity_limit};
-ghost use Rattle.model.specs.Batch.{batch_words, position_record};
+ghost use Rattle.model.specs.Batch.{position_record};
 ghost use Rattle.model.specs.Netting.{position_count};
 ghost use Rattle.model.specs.Rewriting.{in_order, long_of, short_of, held_records, rewritten};
 ghost use Rattle.model.proofs.HeldRecords.{held_at, record_at_place};
