@@ -1,5 +1,5 @@
 -- A batch with a record w as its last: what rows 20 and 21 ask of its parts, its header and its length.
-use Rattle.std.specs.Prelude.{◌≡◌, false, List, ℕ, ◌+◌, ◌≤◌, ◌∷◌, [], length, drop, Ok}
+use Rattle.std.specs.Prelude.{◌≡◌, false, List, ℕ, ◌+◌, ◌≤◌, ◌∷◌, [], length, Ok}
 use Rattle.std.proofs.Common.{arith, length-append, eqb-true}
 use Rattle.std.proofs.lemmas.Bool.{not-false}
 use Rattle.std.proofs.Math.Bool.{not}

@@ -21,13 +21,13 @@ row31 b r = ltb dvp_amount_limit (nat_abs (dvp b (key b r)))
 unfoldable pub row32 : List ℕ → Bool
 row32 b = ltb most_records (length (held_records (net b) (dvp b)))
 
--- "both after 30": the stage of netting in these calls
 unfoldable pub dvp_check : List ℕ → Verdict
 dvp_check b = record_row (Netting DvpTooLarge) (row31 b) (record_count b)
 
 unfoldable pub space_check : List ℕ → Verdict
 space_check b = plain_row (Netting NoSpace) (row32 b)
 
+-- "both after 30": the stage of netting in these calls
 unfoldable pub rewriting_check : List ℕ → List ℕ → Verdict
 rewriting_check d b = tried (netting_check d b ∷ dvp_check b ∷ space_check b ∷ [])
 

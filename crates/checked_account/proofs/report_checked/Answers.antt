@@ -3,10 +3,10 @@ use Rattle.std.proofs.Common.{rules, ◌≡◌, length, ℕ, List, pos, sym, ◌
 use Rattle.classes.specs.Checked.{checked_rows, checked_passed}
 use Rattle.checked_account.proofs.report_checked.Goals as goal
 use Rattle.checked_account.specs.Calls.{answer-deposits, answer-nets, tables_budget, tables_length, tables_needed, tables_report}
-use Rattle.model.proofs.Accepted.{DayRows, BatchRows, batch_checked, netting_rows}
+use Rattle.model.proofs.Accepted.{BatchRows, batch_checked, netting_rows}
 use Rattle.model.proofs.Fewest.{few_of}
 use Rattle.model.proofs.Outcome.{memory_of}
-use Rattle.model.specs.Calls.{answer, answer_of, room_answer, written}
+use Rattle.model.specs.Calls.{answer_of, room_answer, written}
 use Rattle.model.specs.DepositChecks.{deposit_check}
 use Rattle.model.specs.Netting.{netting_check, position_count}
 use Rattle.net_check.specs.Sizes.{placed}
