@@ -5,6 +5,7 @@ pub mod Written
 pub mod Totals
 pub mod OpenPrices
 pub mod OffsetUnits
+pub mod ProjectedOrder
 pub mod Covered
 pub mod TwoGroups
 pub mod RuledOut

@@ -4,7 +4,7 @@ use Rattle.std.proofs.Common.{arith}
 use Rattle.model.specs.declared.Check.{Check}
 use Rattle.model.specs.declared.Check.TheVariants.{Bytes, DayHeader, DayLength, DayWords, Classes, Series, BatchHeader, BatchLength, BatchWords, Positions, Netting, Accounts}
 use Rattle.model.specs.declared.BytesFault.TheVariants.{DayFile, BatchFile}
-use Rattle.model.specs.declared.ClassFault.TheVariants.{ClassOrder, OffsetDiffers}
+use Rattle.model.specs.declared.ClassFault.TheVariants.{ClassOrder, OffsetDiffers, PriceOrder}
 use Rattle.model.specs.declared.SeriesFault.TheVariants.{ClassAbsent, SeriesOrder, BadType}
 use Rattle.model.specs.declared.BatchWordsFault.TheVariants.{WrongKind, OutOfRange, MinusZero}
 use Rattle.model.specs.declared.PositionFault.TheVariants.{SeriesAbsent, ExercisedNonOption, FailNonSecurity, DvpNonSecurity}
@@ -20,6 +20,7 @@ numbered (DayLength f p) = (omega arith, omega arith)
 numbered (DayWords f p) = (omega arith, omega arith)
 numbered (Classes ClassOrder p) = (omega arith, omega arith)
 numbered (Classes OffsetDiffers p) = (omega arith, omega arith)
+numbered (Classes PriceOrder p) = (omega arith, omega arith)
 numbered (Series ClassAbsent p) = (omega arith, omega arith)
 numbered (Series SeriesOrder p) = (omega arith, omega arith)
 numbered (Series BadType p) = (omega arith, omega arith)

@@ -8,7 +8,7 @@ use Rattle.model.specs.declared.BytesFault.TheVariants.{DayFile, BatchFile}
 use Rattle.model.specs.declared.DayHeaderFault.TheVariants.{BadDayHeader}
 use Rattle.model.specs.declared.DayLengthFault.TheVariants.{BadDayLength}
 use Rattle.model.specs.declared.DayWordsFault.TheVariants.{BadDayWord}
-use Rattle.model.specs.declared.ClassFault.TheVariants.{ClassOrder, OffsetDiffers}
+use Rattle.model.specs.declared.ClassFault.TheVariants.{ClassOrder, OffsetDiffers, PriceOrder}
 use Rattle.model.specs.declared.SeriesFault.TheVariants.{ClassAbsent, SeriesOrder, BadType}
 use Rattle.model.specs.declared.BatchHeaderFault.TheVariants.{BadBatchHeader}
 use Rattle.model.specs.declared.BatchLengthFault.TheVariants.{BadBatchLength}
@@ -57,7 +57,7 @@ module _ (d : List ℕ) where
       then plain_old (DayLength BadDayLength) _ refl
       then all_old _
       (found_old (DayWords BadDayWord) (λ i. refl) _
-      then all_old _ (found_old (Classes ClassOrder) (λ i. refl) _ then found_old (Classes OffsetDiffers) (λ i. refl) _ then tt)
+      then all_old _ (found_old (Classes ClassOrder) (λ i. refl) _ then found_old (Classes OffsetDiffers) (λ i. refl) _ then found_old (Classes PriceOrder) (λ i. refl) _ then tt)
       then all_old _
       (found_old (Series ClassAbsent) (λ i. refl) _ then found_old (Series SeriesOrder) (λ i. refl) _ then found_old (Series BadType) (λ i. refl) _ then tt)
       then tt)

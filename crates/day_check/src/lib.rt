@@ -1,4 +1,4 @@
-// The checks of a day file: rows 10 to 17, each over all records before the next.
+// The checks of a day file: rows 10 to 18, each over all records before the next.
 #![tactic(auto)]
 
 ghost use Rattle.std.specs.Prelude.{◌≡◌};
@@ -36,7 +36,7 @@ fn bad_length(day: &[u32]) -> bool
     day.len() != 1 + CLASS_WORDS * class_count(day) + SERIES_WORDS * series_count(day)
 }
 
-// Rows 12 to 17.
+// Rows 12 to 18.
 #[tactic(auto, using(model::proofs::Verdicts::verdicts), unfolding(model::specs::DayChecks::record_check))]
 fn check_records(day: &WholeDay<'_>) -> Result<(), Check>
     ensures { result ≡ record_check day.now.words.now }

@@ -1,15 +1,16 @@
-// Rows 13 and 14: the order of the classes, and their offsets by group.
+// Rows 13, 14 and 18: the order of the classes, their offsets by group, and the order of each one's prices.
 #![tactic(auto)]
 
 ghost use Rattle.std.specs.Prelude.{◌≡◌};
 ghost use Rattle.numbers.specs.Scan.{first_bad};
 ghost use Rattle.model.specs.DayFile.{class_count};
-ghost use Rattle.model.specs.DayChecks.{row13, row14, class_check};
+ghost use Rattle.model.specs.DayChecks.{row13, row14, row18, class_check};
 ghost use Rattle.day_classes.specs.Offsets.{conflict};
 
 use day_file::whole::WholeDay;
 use day_file::{Class, class_count};
 use model::{Check, ClassFault};
+use prices::{DOWNSIDE_1, UPSIDE_1, UPSIDE_5, projected_prices};
 use rows::{check_records, check_row};
 
 // Row 13 of a class: its number is not above that of the one before.
@@ -48,6 +49,20 @@ fn first_other_offset(day: &WholeDay<'_>) -> Option<usize>
     None
 }
 
+// Row 18 of a class: a projected price is below the one before it, or the underlying price below downside 1 or above upside 1.
+// No comparison branches, since almost every class is in order.
+fn prices_out_of_order(class: &Class) -> bool
+    ensures { result ≡ row18 class.now.day.now class.now.place }
+{
+    let prices = projected_prices(class);
+    let underlying = class.underlying();
+    let mut falls = false;
+    for k in 0..UPSIDE_5 {
+        falls |= prices[k + 1] < prices[k];
+    }
+    falls | (underlying < prices[DOWNSIDE_1]) | (prices[UPSIDE_1] < underlying)
+}
+
 pub fn check_classes(day: &WholeDay<'_>) -> Result<(), Check>
     ensures { result ≡ class_check day.now.words.now }
 {
@@ -58,5 +73,10 @@ pub fn check_classes(day: &WholeDay<'_>) -> Result<(), Check>
         |c| Check::Classes(ClassFault::ClassOrder, c),
     )?;
     let unlike = first_other_offset(day);
-    check_row(unlike, |c| Check::Classes(ClassFault::OffsetDiffers, c))
+    check_row(unlike, |c| Check::Classes(ClassFault::OffsetDiffers, c))?;
+    check_records(
+        count,
+        |c| prices_out_of_order(&day.class(c)),
+        |c| Check::Classes(ClassFault::PriceOrder, c),
+    )
 }

@@ -14,7 +14,7 @@ use Rattle.model.specs.declared.BatchLengthFault.TheVariants.{BadBatchLength}
 use Rattle.model.specs.declared.NettingFault.TheVariants.{BadDeposit}
 use Rattle.model.specs.Rows.{plain_row, found_row, record_row}
 use Rattle.model.specs.DayFile.{class_count, series_count}
-use Rattle.model.specs.DayChecks.{row10, row11, row12, row13, row14, row15, row16, row17, class_check, series_check, record_check, day_check}
+use Rattle.model.specs.DayChecks.{row10, row11, row12, row13, row14, row18, row15, row16, row17, class_check, series_check, record_check, day_check}
 use Rattle.model.specs.Batch.{record_count, batch_words}
 use Rattle.model.specs.BatchChecks.{row20, row21, row22, row27, row28, row23, row24, row25, row26, word_check, batch_form, position_check, batch_check}
 use Rattle.model.specs.Netting.{row30, netting_check}
@@ -46,6 +46,7 @@ pub record DayRows (d : List ℕ) : Type 0 where
   pub at12 : (i : ℕ) → i < class_count d + series_count d → row12 d i ≡ false
   pub at13 : (c : ℕ) → c < class_count d → row13 d c ≡ false
   pub at14 : (c : ℕ) → c < class_count d → row14 d c ≡ false
+  pub at18 : (c : ℕ) → c < class_count d → row18 d c ≡ false
   pub at15 : (s : ℕ) → s < series_count d → row15 d s ≡ false
   pub at16 : (s : ℕ) → s < series_count d → row16 d s ≡ false
   pub at17 : (s : ℕ) → s < series_count d → row17 d s ≡ false
@@ -89,6 +90,7 @@ day_checked d e =
       at12 = clear _ _ _ records.0;
       at13 = clear _ _ _ classes.0;
       at14 = clear _ _ _ classes.1.0;
+      at18 = clear _ _ _ classes.1.1.0;
       at15 = clear _ _ _ series.0;
       at16 = clear _ _ _ series.1.0;
       at17 = clear _ _ _ series.1.1.0;
@@ -103,7 +105,7 @@ day_pass d r =
     then plain_back (DayLength BadDayLength) _ r.at11
     then tried_pass _
     (clear_back _ _ _ r.at12
-    then tried_pass _ (clear_back _ _ _ r.at13 then clear_back _ _ _ r.at14 then tt)
+    then tried_pass _ (clear_back _ _ _ r.at13 then clear_back _ _ _ r.at14 then clear_back _ _ _ r.at18 then tt)
     then tried_pass _ (clear_back _ _ _ r.at15 then clear_back _ _ _ r.at16 then clear_back _ _ _ r.at17 then tt)
     then tt)
     then tt)

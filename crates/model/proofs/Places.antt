@@ -15,7 +15,7 @@ use Rattle.model.specs.declared.BytesFault.TheVariants.{DayFile, BatchFile}
 use Rattle.model.specs.declared.DayHeaderFault.TheVariants.{BadDayHeader}
 use Rattle.model.specs.declared.DayLengthFault.TheVariants.{BadDayLength}
 use Rattle.model.specs.declared.DayWordsFault.TheVariants.{BadDayWord}
-use Rattle.model.specs.declared.ClassFault.TheVariants.{ClassOrder, OffsetDiffers}
+use Rattle.model.specs.declared.ClassFault.TheVariants.{ClassOrder, OffsetDiffers, PriceOrder}
 use Rattle.model.specs.declared.SeriesFault.TheVariants.{ClassAbsent, SeriesOrder, BadType}
 use Rattle.model.specs.declared.BatchHeaderFault.TheVariants.{BadBatchHeader}
 use Rattle.model.specs.declared.BatchLengthFault.TheVariants.{BadBatchLength}
@@ -29,7 +29,7 @@ use Rattle.model.specs.Outcomes.{Verdict}
 use Rattle.model.specs.Answers.{place_of, value_of}
 use Rattle.model.specs.Rows.{tried, plain_row, found_row, record_row}
 use Rattle.model.specs.DayFile.{class_count, series_count}
-use Rattle.model.specs.DayChecks.{row10, row11, row12, row13, row14, row15, row16, row17, class_check, series_check, record_check, day_check}
+use Rattle.model.specs.DayChecks.{row10, row11, row12, row13, row14, row18, row15, row16, row17, class_check, series_check, record_check, day_check}
 use Rattle.model.specs.Batch.{record_count, batch_words}
 use Rattle.model.specs.BatchChecks.{row20, row21, row_of, word_row, row23, row24, row25, row26, word_check, batch_form, position_check, batch_check}
 use Rattle.model.specs.Netting.{net, dvp, row30, netting_check}
@@ -80,6 +80,7 @@ day_low d =
     then all_low _
     (record_low (Classes ClassOrder) (row13 d) (class_count d) (λ i. refl) (omega arith)
     then record_low (Classes OffsetDiffers) (row14 d) (class_count d) (λ i. refl) (omega arith)
+    then record_low (Classes PriceOrder) (row18 d) (class_count d) (λ i. refl) (omega arith)
     then tt)
     then all_low _
     (record_low (Series ClassAbsent) (row15 d) (series_count d) (λ i. refl) (omega arith)

@@ -4,7 +4,7 @@ use Rattle.model.specs.Outcomes.{Answer}
 use Rattle.model.specs.declared.Check.{Check}
 use Rattle.model.specs.declared.Check.TheVariants.{Bytes, DayHeader, DayLength, DayWords, Classes, Series, BatchHeader, BatchLength, BatchWords, Positions, Netting, Accounts}
 use Rattle.model.specs.declared.BytesFault.TheVariants.{DayFile, BatchFile}
-use Rattle.model.specs.declared.ClassFault.TheVariants.{ClassOrder, OffsetDiffers}
+use Rattle.model.specs.declared.ClassFault.TheVariants.{ClassOrder, OffsetDiffers, PriceOrder}
 use Rattle.model.specs.declared.SeriesFault.TheVariants.{ClassAbsent, SeriesOrder, BadType}
 use Rattle.model.specs.declared.BatchWordsFault.TheVariants.{WrongKind, OutOfRange, MinusZero}
 use Rattle.model.specs.declared.PositionFault.TheVariants.{SeriesAbsent, ExercisedNonOption, FailNonSecurity, DvpNonSecurity}
@@ -19,6 +19,7 @@ number_of (DayLength f p) = 11
 number_of (DayWords f p) = 12
 number_of (Classes ClassOrder p) = 13
 number_of (Classes OffsetDiffers p) = 14
+number_of (Classes PriceOrder p) = 18
 number_of (Series ClassAbsent p) = 15
 number_of (Series SeriesOrder p) = 16
 number_of (Series BadType p) = 17

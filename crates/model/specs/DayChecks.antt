@@ -1,17 +1,17 @@
--- The checks of a day file: rows 10 to 17, and the first that refuses. d is the list of its words, c a class, s a series.
+-- The checks of a day file: rows 10 to 18, and the first that refuses. d is the list of its words, c a class, s a series.
 use Rattle.std.specs.Prelude.{Bool, not, ◌&&◌, ◌||◌, cond, List, [], ◌∷◌, ℕ, ◌+◌, ◌-◌, leb, ltb, eqb, length, is_some}
 use Rattle.numbers.specs.Scan.{any_below}
 use Rattle.model.specs.declared.Check.TheVariants.{DayHeader, DayLength, DayWords, Classes, Series}
 use Rattle.model.specs.declared.DayHeaderFault.TheVariants.{BadDayHeader}
 use Rattle.model.specs.declared.DayLengthFault.TheVariants.{BadDayLength}
 use Rattle.model.specs.declared.DayWordsFault.TheVariants.{BadDayWord}
-use Rattle.model.specs.declared.ClassFault.TheVariants.{ClassOrder, OffsetDiffers}
+use Rattle.model.specs.declared.ClassFault.TheVariants.{ClassOrder, OffsetDiffers, PriceOrder}
 use Rattle.model.specs.declared.SeriesFault.TheVariants.{ClassAbsent, SeriesOrder, BadType}
 use Rattle.model.specs.Outcomes.{Verdict}
-use Rattle.model.specs.Limits.{most_classes, most_series, group_count, multiplier_limit, whole_offset}
+use Rattle.model.specs.Limits.{most_classes, most_series, group_count, downside1, upside1, upside5, multiplier_limit, whole_offset}
 use Rattle.model.specs.Words.{kind, payload, payload_limit, bits, bad_word, bad_price}
 use Rattle.model.specs.Rows.{tried, plain_row, record_row}
-use Rattle.model.specs.DayFile.{day_header, class_count, series_count, class_words, series_words, day_words, class_word, group, class_number, offset, series_word, series_key, serial, expiry, series_type, multiplier, strike, adjustment, is_future, is_option, is_derivative, is_security, found_class}
+use Rattle.model.specs.DayFile.{day_header, class_count, series_count, class_words, series_words, day_words, class_word, group, class_number, underlying, offset, projected, series_word, series_key, serial, expiry, series_type, multiplier, strike, adjustment, is_future, is_option, is_derivative, is_security, found_class}
 
 -- no words, wrong kind, spare bits, C or S too large
 unfoldable pub row10 : List ℕ → Bool
@@ -56,6 +56,17 @@ offsets_differ d c j = eqb (group d j) (group d c) && not (eqb (offset d j) (off
 unfoldable pub row14 : List ℕ → ℕ → Bool
 row14 d c = any_below c (offsets_differ d c)
 
+-- the projected price at the point behind k is below that at k
+unfoldable pub projected_falls : List ℕ → ℕ → ℕ → Bool
+projected_falls d c k = ltb (projected d c (k + 1)) (projected d c k)
+
+-- a projected price is below the one before it, or the underlying price below downside 1 or above upside 1 (U8)
+unfoldable pub row18 : List ℕ → ℕ → Bool
+row18 d c =
+    any_below upside5 (projected_falls d c)
+    || ltb (underlying d c) (projected d c downside1)
+    || ltb (projected d c upside1) (underlying d c)
+
 -- class number absent
 unfoldable pub row15 : List ℕ → ℕ → Bool
 row15 d s = not (is_some (found_class d s))
@@ -84,6 +95,7 @@ class_check d =
     tried
     (record_row (Classes ClassOrder) (row13 d) (class_count d)
     ∷ record_row (Classes OffsetDiffers) (row14 d) (class_count d)
+    ∷ record_row (Classes PriceOrder) (row18 d) (class_count d)
     ∷ [])
 
 -- the stage of the series

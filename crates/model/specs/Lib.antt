@@ -33,6 +33,7 @@ pub mod ManyFigures
 pub mod AdjustmentFigures
 pub mod DepositFigures
 pub mod OffsetFigures
+pub mod ProjectedFigures
 pub mod RewritingFigures
 pub mod Ascii
 pub mod Texts

@@ -61,6 +61,13 @@ downside5 = 0
 abbrev pub upside5 : ℕ
 upside5 = point_count - 1
 
+-- and the two next to the underlying price
+abbrev pub upside1 : ℕ
+upside1 = point_count / 2
+
+abbrev pub downside1 : ℕ
+downside1 = upside1 - 1
+
 -- ---- what a record adds at most: to a sum of net × multiplier × price, to a spread, to an MTM, to a margin
 
 abbrev pub record_worth : ℕ

@@ -16,7 +16,7 @@ spot_held =
 -- two exercised calls out of the money: underlying 5, strike 6; not floored, the premium is a debit of 2
 abbrev out_of_the_money : List ℕ
 out_of_the_money =
-    day_file 1 1 (class_record 0 0 (50000 ∷ replicate 7 0) 0 (ten 0) ++ series_record 0 2 0 1 (60000 ∷ 0 ∷ []) (ten 0))
+    day_file 1 1 (class_record 0 0 (50000 ∷ replicate 7 0) 0 (ten 50000) ++ series_record 0 2 0 1 (60000 ∷ 0 ∷ []) (ten 0))
 
 -- two records of one position: M3's share, in one line
 abbrev pub two_records : List ℕ

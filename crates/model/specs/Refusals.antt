@@ -90,6 +90,8 @@ refusals =
       computed = answer_numbers (classes (class_record 2 5 no_rates 8275 (ten 0)) (class_record 2 6 no_rates 8276 (ten 0))) none;
       published = pos 14 ∷ pos 1 ∷ [];
     }
+    -- 18, before 15: a class whose downside 5 is above its downside 4
+    ∷ record { computed = answer_numbers (changed_class 10 (word 3 1)) none; published = pos 18 ∷ pos 0 ∷ [] }
     -- 15: class 1 in the third series
     ∷ record { computed = answer_numbers (changed_series 2 0 (word 2 (2 ^ 19 * 4 + 2 ^ 23))) none; published = pos 15 ∷ pos 2 ∷ [] }
     -- 16: a key below the one before

@@ -45,11 +45,12 @@ pub enum DayWordsFault {
     BadDayWord = 12,
 }
 
-// Rows 13 and 14.
+// Rows 13, 14 and 18.
 #[derive(Clone, Copy)]
 pub enum ClassFault {
     ClassOrder = 13,
     OffsetDiffers = 14,
+    PriceOrder = 18,
 }
 
 // Rows 15, 16 and 17.

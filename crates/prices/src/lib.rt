@@ -16,7 +16,13 @@ use words::payload;
 const DOWNSIDE_5: usize = 0;
 
 // The last point.
-const UPSIDE_5: usize = Points::COUNT - 1;
+pub const UPSIDE_5: usize = Points::COUNT - 1;
+
+// Upside 1, the first point of the upside.
+pub const UPSIDE_1: usize = Points::COUNT / 2;
+
+// Downside 1, the last point of the downside.
+pub const DOWNSIDE_1: usize = UPSIDE_1 - 1;
 
 // Ten payloads from word i on.
 fn ten(day: &[u32], i: usize) -> [u32; Points::COUNT]
