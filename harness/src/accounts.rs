@@ -1,6 +1,6 @@
 //! Random accounts, and accounts damaged so that each row of the table refuses some of them.
 use crate::fields::{self, Class, Record, Series, EQUITY};
-use crate::layout::{class_at, counts, series_at, CLASS_WORDS, OFFSET, SERIES_WORDS, WHOLE_OFFSET};
+use crate::layout::{class_at, counts, series_at, CLASS_WORDS, OFFSET, PROJECTED, SERIES_WORDS, WHOLE_OFFSET};
 use crate::reckoner::reckon;
 use crate::rng::Rng;
 
@@ -54,6 +54,31 @@ pub(crate) fn near(rng: &mut Rng, base: u32) -> u32 {
     moved.saturating_sub(span).min(500_000_000) as u32
 }
 
+/// Ten projected prices put in order: sorted, those of the downside at most the underlying price, those of the upside at least it.
+pub fn in_order(underlying: u32, mut prices: [u32; 10]) -> [u32; 10] {
+    prices.sort_unstable();
+    let (downside, upside) = prices.split_at_mut(5);
+    downside.iter_mut().for_each(|p| *p = underlying.min(*p));
+    upside.iter_mut().for_each(|p| *p = underlying.max(*p));
+    prices
+}
+
+/// Projected prices in order, five on each side of the underlying price; in half of the classes one of them becomes another or the
+/// underlying price.
+fn projected(rng: &mut Rng, underlying: u32) -> [u32; 10] {
+    let mut prices = [0; 10];
+    for (k, p) in prices.iter_mut().enumerate() {
+        let distance = near(rng, underlying).abs_diff(underlying);
+        *p = if k < 5 { underlying.saturating_sub(distance) } else { HIGHEST_PRICE.min(underlying + distance) };
+    }
+    match rng.below(4) {
+        0 => prices[rng.below(10) as usize] = rng.pick(&prices),
+        1 => prices[rng.below(10) as usize] = underlying,
+        _ => {}
+    }
+    in_order(underlying, prices)
+}
+
 /// A short option adjustment: none, near the closing price as the theoretical prices are, or any price.
 fn adjustment(rng: &mut Rng, closing: u32) -> u32 {
     match rng.below(4) {
@@ -95,9 +120,7 @@ pub fn day_file(rng: &mut Rng, classes: usize, series: usize) -> Vec<u32> {
             class_words.push(word(3, price(rng)));
         }
         class_words.push(word(4, offsets[group as usize] as u32));
-        for _ in 0..10 {
-            class_words.push(word(3, near(rng, underlying)));
-        }
+        class_words.extend(projected(rng, underlying).map(|p| word(3, p)));
     }
     let mut keys = Vec::new();
     if classes > 0 {
@@ -260,19 +283,22 @@ pub fn extreme(rng: &mut Rng) -> Account {
     let only = rng.below(12) as u32;
     let down = rng.once_in(3);
     let high = |rng: &mut Rng| HIGHEST_PRICE * u32::from(!rng.once_in(4));
-    let class = |rng: &mut Rng, number: u32| Class {
-        group: number % groups,
-        number,
-        underlying: high(rng),
-        spot_rate: high(rng),
-        non_spot_rate: high(rng),
-        option_rate: high(rng),
-        future_rate: high(rng),
-        equity_rate: high(rng),
-        warrant_rate: high(rng),
-        rights_rate: high(rng),
-        offset,
-        projected: [0; 10].map(|_| high(rng)),
+    let class = |rng: &mut Rng, number: u32| {
+        let underlying = high(rng);
+        Class {
+            group: number % groups,
+            number,
+            underlying,
+            spot_rate: high(rng),
+            non_spot_rate: high(rng),
+            option_rate: high(rng),
+            future_rate: high(rng),
+            equity_rate: high(rng),
+            warrant_rate: high(rng),
+            rights_rate: high(rng),
+            offset,
+            projected: in_order(underlying, [0; 10].map(|_| high(rng))),
+        }
     };
     let classes: Vec<Class> = (0..classes).map(|number| class(rng, number)).collect();
     let mut series: Vec<Series> = (0..256u32)
@@ -347,7 +373,7 @@ pub fn damage(rng: &mut Rng, a: &mut Account) {
     let class = |rng: &mut Rng| class_at(rng.below(c.max(1) as u64) as usize);
     let series = |rng: &mut Rng| series_at(c, rng.below(s.max(1) as u64) as usize);
     let record = |rng: &mut Rng| 1 + 6 * rng.below(p.max(1) as u64) as usize;
-    match rng.below(32) {
+    match rng.below(34) {
         // any word, any bit
         0 => flip(rng, &mut a.day),
         1 => flip(rng, &mut a.batch),
@@ -393,10 +419,43 @@ pub fn damage(rng: &mut Rng, a: &mut Account) {
         }
         // a hundredth of a percent, which alone makes a group's offsets differ
         31 if c > 0 => a.day[class(rng) + OFFSET] ^= 1,
+        // projected prices and the underlying price
+        32 | 33 if c > 0 => out_of_order(rng, &mut a.day, 1),
         // empty files
         28 if rng.once_in(6) => a.day.clear(),
         29 if rng.once_in(6) => a.batch.clear(),
         _ => flip(rng, &mut a.batch),
+    }
+}
+
+/// The eleven places of a class at which row 18 compares two words, of which the first may not be above the second: each projected price and
+/// the next, downside 1 and the underlying price, that and upside 1.
+pub const ORDER: [(usize, usize); 11] =
+    [(10, 11), (11, 12), (12, 13), (13, 14), (14, 15), (15, 16), (16, 17), (17, 18), (18, 19), (14, 1), (1, 15)];
+
+/// Damages a class's prices at one of these places: the first word a unit above the second, both exchanged, or both equal, which offends only
+/// where downside 1 becomes upside 1. Or exchanges a downside price and the upside price of its number.
+fn damage_order(rng: &mut Rng, class: &mut [u32]) {
+    let (first, second) = rng.pick(&ORDER);
+    match rng.below(4) {
+        0 => class[first] = class[second].wrapping_add(1),
+        1 => class.swap(first, second),
+        2 => class[first] = class[second],
+        _ => {
+            let k = rng.below(5) as usize;
+            class.swap(PROJECTED + k, PROJECTED + 9 - k);
+        }
+    }
+}
+
+/// The same in some class of a day file of its own length, so many times.
+pub fn out_of_order(rng: &mut Rng, day: &mut [u32], times: usize) {
+    let classes = counts(day).0 as u64;
+    if classes > 0 {
+        for _ in 0..times {
+            let at = class_at(rng.below(classes) as usize);
+            damage_order(rng, &mut day[at..at + CLASS_WORDS]);
+        }
     }
 }
 

@@ -1,6 +1,6 @@
 //! The committed cases for the call over words: accounts with a memory's length, and what is printed for each.
 use crate::accounts::{accepted, account, all_lines, damage, extreme, Account, LARGEST, SMALL, TYPICAL};
-use crate::fields::{self, Class, Record, Series, EQUITY};
+use crate::fields::{self, Class, Record, Series, CALL, EQUITY};
 use crate::files::Made;
 use crate::layout::WHOLE_OFFSET;
 use crate::reckoner::{reckon, text, to_bytes, words, Refusal};
@@ -18,7 +18,7 @@ pub struct Case {
 pub const LONGEST: usize = 1115;
 
 /// The rows of the table that the call over words can meet without deposits, its memory long enough.
-pub const ROWS: [u32; 18] = [10, 11, 12, 13, 14, 15, 16, 17, 20, 21, 22, 27, 28, 23, 24, 25, 26, 30];
+pub const ROWS: [u32; 19] = [10, 11, 12, 13, 14, 18, 15, 16, 17, 20, 21, 22, 27, 28, 23, 24, 25, 26, 30];
 
 /// One share, and so many records of it.
 pub fn with_records(records: usize) -> Account {
@@ -59,6 +59,15 @@ pub fn with_credit(offset: u32, credit: u32) -> Account {
     fields::account(&[class(0), class(1)], &[series(0, 200), series(1, credit)], &records)
 }
 
+/// Two classes, the second with downside 1 at 5.0 euro, upside 1 at 5.2 and this underlying price, and an exercised call in each.
+pub fn with_underlying(underlying: u32) -> Account {
+    let projected = [46_000, 47_000, 48_000, 49_000, 50_000, 52_000, 53_000, 54_000, 55_000, 56_000];
+    let class = |number, underlying| Class { group: 3, number, underlying, projected, ..Class::default() };
+    let call = |class_number| Series { class_number, series_type: CALL, multiplier: 100, strike: 49_000, ..Series::default() };
+    let record = |series| Record { series, exercised: true, long: 3, ..Record::default() };
+    fields::account(&[class(0, 51_000), class(1, underlying)], &[call(0), call(1)], &[record(0), record(1)])
+}
+
 fn needed(a: &Account) -> Option<usize> {
     reckon(&a.day, &a.batch).ok().map(|report| words(&report).len())
 }
@@ -93,6 +102,10 @@ pub fn cases() -> Vec<Case> {
     // those of U6: M7's credits of 101 and 1 at 85%, that of 101 at 82.75% and 0.85%
     for (offset, credit) in [(8_500, 101), (8_500, 1), (8_275, 101), (85, 101)] {
         add(with_credit(offset, credit), LONGEST);
+    }
+    // those of U8: an underlying price equal to downside 1 and to upside 1, and a unit outside each
+    for underlying in [50_000, 52_000, 49_999, 52_001] {
+        add(with_underlying(underlying), LONGEST);
     }
     let mut rng = Rng::new(2021);
     for _ in 0..16 {

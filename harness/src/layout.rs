@@ -3,6 +3,10 @@
 pub const CLASS_WORDS: usize = 20;
 pub const SERIES_WORDS: usize = 15;
 
+/// The places of a class's underlying price and of its ten projected prices, from downside 5 on.
+pub const UNDERLYING: usize = 1;
+pub const PROJECTED: usize = 10;
+
 /// The place of a class's offset, and the offset that leaves a credit whole: 100 percent, in hundredths of a percent.
 pub const OFFSET: usize = 9;
 pub const WHOLE_OFFSET: u32 = 10_000;

@@ -1,7 +1,8 @@
 //! The same work in straight 64-bit Rust: the baseline of the benchmark. Its answers are held to the reckoner's in the tests.
 //! The checks that its calls share are marked to be inlined into each: compiled once for all they cost the report some hundredths more.
 use crate::layout::{
-    class_at, series_at, CLASS_WORDS, LONGEST_BATCH, LONGEST_DAY, MOST_RECORDS, OFFSET, SERIES_WORDS, WHOLE_OFFSET,
+    class_at, series_at, CLASS_WORDS, LONGEST_BATCH, LONGEST_DAY, MOST_RECORDS, OFFSET, PROJECTED, SERIES_WORDS, UNDERLYING,
+    WHOLE_OFFSET,
 };
 
 pub mod rewriting;
@@ -114,6 +115,14 @@ impl Day<'_> {
                 *slot = self.class(c, OFFSET);
             } else if *slot != self.class(c, OFFSET) {
                 return Some((14, c));
+            }
+        }
+        for c in 0..self.classes {
+            // words of one kind stand as their payloads do; none of the comparisons branches
+            let w = &self.words[class_at(c)..][..CLASS_WORDS];
+            let falls = (PROJECTED..CLASS_WORDS - 1).fold(false, |falls, i| falls | (w[i] > w[i + 1]));
+            if falls | (w[PROJECTED + 4] > w[UNDERLYING]) | (w[UNDERLYING] > w[PROJECTED + 5]) {
+                return Some((18, c));
             }
         }
         let mut present = [false; 64];
@@ -376,7 +385,7 @@ fn put_amount(out: &mut [u32], z: i64) {
     out[2] = 6 << 29 | (size & 0x1fff_ffff) as u32;
 }
 
-/// Rows 10 to 17.
+/// Rows 10 to 18.
 #[inline]
 fn read_day(words: &[u32]) -> Result<Day<'_>, Refused> {
     let header = words.first().copied().unwrap_or(0);

@@ -147,7 +147,7 @@ fn series_record(w: &[u32]) -> Option<Series> {
     })
 }
 
-/// Rows 10 to 17.
+/// Rows 10 to 18.
 pub fn read_day(day: &[u32]) -> Result<DayFile, Refusal> {
     let Some(&header) = day.first() else { return refuse(10, 0) };
     let c = (payload(header) & 127) as usize;
@@ -180,6 +180,14 @@ pub fn read_day(day: &[u32]) -> Result<DayFile, Refusal> {
     for i in 0..c {
         if (0..i).any(|j| classes[j].group == classes[i].group && classes[j].offset != classes[i].offset) {
             return refuse(14, i);
+        }
+    }
+    for (i, class) in classes.iter().enumerate() {
+        let prices = &class.projected;
+        let falls = (1..10).any(|k| prices[k] < prices[k - 1]);
+        let (downside_1, upside_1) = (prices[4], prices[5]);
+        if falls || class.underlying < downside_1 || class.underlying > upside_1 {
+            return refuse(18, i);
         }
     }
     for (i, one) in series.iter().enumerate() {

@@ -47,8 +47,9 @@ pub const MINUS_ZERO: (usize, u32) = (4, 5 << 29 | 1 << 28);
 pub const WRONG_KIND: (usize, u32) = (12, 5 << 29);
 
 fn fail() -> Account {
-    let class = Class { group: 3, underlying: 125_000, equity_rate: 2_500, offset: 8_500, ..Class::default() };
     let theoretical = moved(125_000, SHARE_MOVES);
+    let class =
+        Class { group: 3, underlying: 125_000, equity_rate: 2_500, offset: 8_500, projected: theoretical, ..Class::default() };
     let series = Series { series_type: EQUITY, multiplier: 1, closing: 125_000, theoretical, ..Series::default() };
     let ordinary = Record { long: 1_000, dvp: -123_000_000, ..Record::default() };
     let fail = Record { short: 400, dvp: 48_800_000, fail: true, ..Record::default() };
@@ -165,7 +166,8 @@ fn offset() -> Account {
 
 /// M8: a net of 1,001 at multiplier 10,000, in the second record.
 fn refused() -> Account {
-    let class = Class { group: 5, underlying: 10_000, option_rate: 1_000, ..Class::default() };
+    let projected = moved(10_000, SHARE_MOVES);
+    let class = Class { group: 5, underlying: 10_000, option_rate: 1_000, projected, ..Class::default() };
     let series = [10_000, 11_000].map(|strike| Series {
         series_type: CALL,
         expiry: expiry(2021, 9),

@@ -1,8 +1,9 @@
 //! The scope's figures that are run, at the byte call; those of deposits at the call over words.
-use harness::accounts::{opposed, Account};
-use harness::cases::{with_credit, with_offset, with_records};
+use harness::accounts::{opposed, Account, ORDER};
+use harness::cases::{with_credit, with_offset, with_records, with_underlying};
 use harness::deposits::MOST_SHARES;
 use harness::fields::{account, expiry, Class, Record, Series, CALL, FUTURE};
+use harness::layout::{class_at, UNDERLYING};
 use harness::reading::read_report;
 use harness::reckoner::{reckon, reckon_with, text, to_bytes, to_words, Refusal, Report};
 use harness::samples::{calls, samples, with_words, MINUS_ZERO, TOO_MANY, WRONG_KIND};
@@ -50,6 +51,80 @@ fn credits_at_the_limits() {
         let left = 640_000_000_000_000_000 / 10_000 * i128::from(10_000 - offset);
         assert_eq!(run(&opposed(offset)).expect("accepted").lines[0].amounts[3], left, "{offset}");
     }
+}
+
+/// Downside 1 at 5.0 euro and upside 1 at 5.2, in the second class.
+#[test]
+fn underlying_from_downside_1_to_upside_1() {
+    let refused = |underlying| run(&with_underlying(underlying)).err();
+    let row_18 = Some(Refusal { number: 18, place: 1 });
+    assert_eq!((refused(50_000), refused(52_000)), (None, None));
+    assert_eq!((refused(49_999), refused(52_001)), (row_18, row_18));
+}
+
+/// Three classes of one group, their prices in order and all unlike, and a future of the last.
+fn three_classes() -> Account {
+    let projected = [10, 20, 30, 40, 50, 70, 80, 90, 100, 110];
+    let class = |number| Class { number, underlying: 60, projected, ..Class::default() };
+    account(&[0, 1, 2].map(class), &[future(2, 3, 100)], &[])
+}
+
+/// In a class the first word of a place becomes so many units more than the second. For downside 1 at upside 1 the underlying price follows.
+fn raise(a: &mut Account, class: usize, (first, second): (usize, usize), more: u32) {
+    let w = &mut a.day[class_at(class)..class_at(class + 1)];
+    w[first] = w[second] + more;
+    if (first, second) == (14, 15) {
+        w[UNDERLYING] = w[second];
+    }
+}
+
+fn number_and_place(a: &Account) -> (u32, usize) {
+    run(a).map_or_else(|r| (r.number, r.place), |_| (0, 0))
+}
+
+#[test]
+fn the_eleven_places_of_row_18() {
+    for place in ORDER {
+        for class in 0..3 {
+            for (more, expected) in [(0, (0, 0)), (1, (18, class))] {
+                let mut a = three_classes();
+                raise(&mut a, class, place, more);
+                assert_eq!(number_and_place(&a), expected, "{place:?}, class {class}");
+            }
+        }
+    }
+    // all prices equal; upside 2 and downside 2 exchanged
+    let mut a = three_classes();
+    (0..3).for_each(|c| a.day[class_at(c) + 10..class_at(c + 1)].fill(3 << 29 | 60));
+    assert_eq!(number_and_place(&a), (0, 0));
+    let mut a = three_classes();
+    a.day.swap(class_at(1) + 13, class_at(1) + 16);
+    assert_eq!(number_and_place(&a), (18, 1));
+}
+
+/// Rows 12 to 14 before 18 and that before 15 to 17, each over all classes or series; of two classes the first is named.
+#[test]
+fn row_18_between_14_and_15() {
+    let mut a = three_classes();
+    let series = class_at(3);
+    raise(&mut a, 1, ORDER[0], 1);
+    a.day[series] ^= 1; // a serial on a future
+    assert_eq!(number_and_place(&a), (18, 1));
+    a.day[series] ^= 7 << 23; // of class 5, which is absent
+    assert_eq!(number_and_place(&a), (18, 1));
+    raise(&mut a, 0, ORDER[10], 1);
+    assert_eq!(number_and_place(&a), (18, 0));
+    a.day[class_at(2) + 9] ^= 1;
+    assert_eq!(number_and_place(&a), (14, 2));
+    a.day[class_at(2)] ^= 3 << 5; // number 1 again
+    assert_eq!(number_and_place(&a), (13, 2));
+    a.day[series + 1] = 4 << 29;
+    assert_eq!(number_and_place(&a), (12, 3));
+    // without the classes' faults the series' come
+    let mut b = three_classes();
+    b.day[series..].copy_from_slice(&a.day[series..]);
+    b.day[series + 1] = 4 << 29 | 1;
+    assert_eq!(number_and_place(&b), (15, 0));
 }
 
 #[test]

@@ -1,5 +1,5 @@
 //! The benchmark's baseline against the reckoner: the same answers and memories.
-use harness::accounts::{accepted, account, damage, mixed};
+use harness::accounts::{accepted, account, damage, mixed, out_of_order};
 use harness::additions::mixed_addition;
 use harness::deposits::mixed_case;
 use harness::layout::LONGEST_BATCH;
@@ -32,6 +32,23 @@ fn baseline_agrees_with_the_reckoner() {
 }
 
 #[test]
+fn baseline_agrees_with_the_reckoner_on_prices_out_of_order() {
+    let mut rng = Rng::new(11);
+    let (mut refused, mut others) = (0, 0);
+    for i in 0..6000 {
+        let mut a = account(&mut rng, mixed(i));
+        out_of_order(&mut rng, &mut a.day, 1 + i % 2);
+        let (mut ours, mut theirs) = (vec![7; 1115], vec![7; 1115]);
+        let expected = packed(call_words(&a.day, &a.batch, &[], &mut theirs));
+        assert_eq!(plain::call_words(&a.day, &a.batch, &[], &mut ours), expected, "case {i}");
+        assert_eq!(ours, theirs, "case {i}");
+        *if expected >> 32 == 18 { &mut refused } else { &mut others } += 1;
+    }
+    println!("{refused} refused by 18, {others} not");
+    assert!(refused >= 3000 && others >= 500);
+}
+
+#[test]
 fn baseline_agrees_with_the_reckoner_on_deposits() {
     let mut rng = Rng::new(9);
     for i in 0..6000 {
@@ -60,7 +77,7 @@ fn baseline_agrees_with_the_reckoner_on_rewritings() {
         assert_eq!(ours, theirs, "case {i}");
         numbers.extend([rewritten >> 32, added >> 32]);
     }
-    let table = [0, 10, 11, 12, 13, 14, 15, 16, 17, 20, 21, 22, 23, 24, 25, 26, 27, 28, 30, 31, 32, 40];
+    let table = [0, 10, 11, 12, 13, 14, 15, 16, 17, 18, 20, 21, 22, 23, 24, 25, 26, 27, 28, 30, 31, 32, 40];
     assert_eq!(numbers.into_iter().collect::<Vec<_>>(), table);
 }
 

@@ -34,7 +34,7 @@ impl TooLarge {
 }
 
 /// The rows that both calls have.
-const ROWS: [u32; 20] = [10, 11, 12, 13, 14, 15, 16, 17, 20, 21, 22, 23, 24, 25, 26, 27, 28, 30, 31, 40];
+const ROWS: [u32; 21] = [10, 11, 12, 13, 14, 15, 16, 17, 18, 20, 21, 22, 23, 24, 25, 26, 27, 28, 30, 31, 40];
 
 #[test]
 fn random_and_damaged_batches() {

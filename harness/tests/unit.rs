@@ -1,9 +1,9 @@
 //! The byte call against the reckoner: number, place and every byte of the memory.
 use harness::accounts::{
-    accepted, account, all_lines, damage, damage_word, extreme, mixed, utmost, without_adjustments, without_decimals, Account,
-    SMALL, TYPICAL, WORD_WAYS,
+    accepted, account, all_lines, damage, damage_word, extreme, mixed, out_of_order, utmost, without_adjustments,
+    without_decimals, Account, ORDER, SMALL, TYPICAL, WORD_WAYS,
 };
-use harness::layout::{counts, series_at, LONGEST_BATCH, LONGEST_DAY};
+use harness::layout::{counts, series_at, CLASS_WORDS, LONGEST_BATCH, LONGEST_DAY};
 use harness::reading::read_report;
 use harness::reckoner::{call_bytes, first_bad_record, reckon, text, to_bytes, to_words, words, Refusal};
 use harness::rng::Rng;
@@ -100,19 +100,21 @@ fn random_and_damaged_accounts() {
         }
         if let Ok(n) = result {
             longest = longest.max(n);
-            let classes = counts(&a.day).0;
-            for record in a.batch[1..].chunks(6) {
+            // as the bytes have them: a damage of those may mend one of the words
+            let (day, batch) = (to_words(&day), to_words(&batch));
+            let classes = counts(&day).0;
+            for record in batch[1..].chunks(6) {
                 let series = series_at(classes, (record[0] & 255) as usize);
-                types.insert((a.day[series] >> 19 & 15, record[0] >> 8 & 1 == 1, record[0] >> 9 & 1 == 1));
+                types.insert((day[series] >> 19 & 15, record[0] >> 8 & 1 == 1, record[0] >> 9 & 1 == 1));
             }
         }
     }
     println!("answers by number: {numbers:?}, by the adjustments: {adjusted:?}, by the offsets' decimals: {decimals:?}");
     println!("longest report: {longest} words");
     let reached: Vec<u32> = numbers.keys().copied().collect();
-    let table = [0, 1, 2, 10, 11, 12, 13, 14, 15, 16, 17, 20, 21, 22, 23, 24, 25, 26, 27, 28, 30, 40];
+    let table = [0, 1, 2, 10, 11, 12, 13, 14, 15, 16, 17, 18, 20, 21, 22, 23, 24, 25, 26, 27, 28, 30, 40];
     assert_eq!(reached, table);
-    assert!(numbers[&0] >= 20_000);
+    assert!(numbers[&0] >= 20_000 && numbers[&18] >= 1000);
     assert!(adjusted[&0] >= 500 && adjusted[&12] >= 50 && adjusted[&17] >= 50);
     assert!(decimals[&0] >= 500 && decimals[&12] >= 50 && decimals[&14] >= 50);
     // every type open and in the ordinary book, options exercised, securities as fails
@@ -145,6 +147,40 @@ fn bad_words_of_a_batch() {
     println!("by number, in the first bad record and behind it: {numbers:?}");
     let [kind, range, zero] = [22, 27, 28].map(|row| numbers[&row]);
     assert!(kind.iter().chain(&range).all(|&n| n >= 200) && zero[0] >= 200 && zero[1] == 0);
+}
+
+/// Prices of an accepted account's classes out of order at one of the eleven places of row 18, or equal there.
+#[test]
+fn prices_out_of_order() {
+    let mut rng = Rng::new(4715);
+    let mut fill = Rng::new(4716);
+    // by the place: above, by one unit, and equal in an accepted account
+    let mut places = [[0; 3]; 11];
+    let mut behind = 0;
+    for i in 0..600 {
+        let a = accepted(&mut rng, if i % 10 == 0 { TYPICAL } else { SMALL });
+        for n in 0..20 {
+            let mut day = a.day.clone();
+            out_of_order(&mut rng, &mut day, 1 + n % 2);
+            let case = format!("account {i}, day file {n}");
+            let (told, refused) = match compare(&to_bytes(&day), &to_bytes(&a.batch), 4460, &mut fill, &case) {
+                Ok(_) => (counts(&day).0, None),
+                Err(Refusal { number: 18, place }) => (place + 1, Some(place)),
+                Err(_) => continue,
+            };
+            for (class, w) in day[1..].chunks(CLASS_WORDS).enumerate().take(told) {
+                assert_eq!(ORDER.iter().any(|&(first, second)| w[first] > w[second]), refused == Some(class), "{case}");
+                for ((first, second), [above, by_one, equal]) in ORDER.into_iter().zip(&mut places) {
+                    *above += usize::from(w[first] > w[second]);
+                    *by_one += usize::from(w[first] == w[second] + 1);
+                    *equal += usize::from(refused.is_none() && w[first] == w[second]);
+                }
+            }
+            behind += usize::from(refused.is_some_and(|class| class > 0));
+        }
+    }
+    println!("above, by one unit, equal, by the place: {places:?}; {behind} refused behind the first class");
+    assert!(places.as_flattened().iter().all(|&n| n >= 100) && behind >= 1000);
 }
 
 #[test]
