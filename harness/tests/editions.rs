@@ -1,50 +1,146 @@
-//! The converter: offsets in percent become hundredths of a percent and no other word changes; no case of this edition passes for one of the
-//! edition before.
-use harness::accounts::{account, damage, mixed, Account};
-use harness::cases::with_credit;
-use harness::editions::{files, in_hundredths};
-use harness::layout::{class_at, counts, CLASS_WORDS, OFFSET};
-use harness::reckoner::{reckon, Refusal};
+//! The converter: of a day file that row 18 refuses the projected prices are put in order and no other word changes; answers stay but for what
+//! projected prices give; every case is of this edition.
+use harness::accounts::{account, damage, mixed, out_of_order};
+use harness::cases::with_underlying;
+use harness::editions::{converted, heads, is_kept, with_prices_in_order};
+use harness::files::top;
+use harness::layout::{class_at, counts, CLASS_WORDS, PROJECTED, UNDERLYING};
+use harness::reckoner::{read_day, reckon, text, Refusal};
 use harness::rng::Rng;
+use std::fs;
+
+/// Row 18 of the words of a class.
+fn is_in_order(class: &[u32]) -> bool {
+    let prices = &class[PROJECTED..];
+    prices.is_sorted() && (prices[4]..=prices[5]).contains(&class[UNDERLYING])
+}
+
+fn refused_by_18(day: &[u32]) -> bool {
+    read_day(day).is_err_and(|r| r.number == 18)
+}
 
 #[test]
-fn offsets_alone_change() {
+fn projected_prices_of_classes_out_of_order_alone_change() {
     let mut rng = Rng::new(93);
-    let mut changed = 0;
+    let (mut files, mut classes, mut beside) = (0, 0, 0);
     for i in 0..20_000 {
         let mut a = account(&mut rng, mixed(i));
-        for _ in 0..i % 3 {
+        out_of_order(&mut rng, &mut a.day, i % 3);
+        if i % 5 == 4 {
             damage(&mut rng, &mut a);
         }
-        let mut now = in_hundredths(&a.day);
-        let end = class_at(counts(&a.day).0).min(a.day.len());
-        for at in (1 + OFFSET..end).step_by(CLASS_WORDS) {
-            assert_eq!(now[at] >> 29, a.day[at] >> 29, "case {i}");
-            changed += usize::from(now[at] != a.day[at]);
-            now[at] = a.day[at];
+        let mut now = with_prices_in_order(&a.day);
+        assert!(!refused_by_18(&now) && with_prices_in_order(&now) == now, "case {i}");
+        if !refused_by_18(&a.day) {
+            assert_eq!(now, a.day, "case {i}");
+            continue;
+        }
+        files += 1;
+        let behind = class_at(counts(&a.day).0);
+        for (now, before) in now[1..behind].chunks_mut(CLASS_WORDS).zip(a.day[1..behind].chunks(CLASS_WORDS)) {
+            assert_eq!(now == before, is_in_order(before), "case {i}");
+            *if now == before { &mut beside } else { &mut classes } += 1;
+            now[PROJECTED..].copy_from_slice(&before[PROJECTED..]);
         }
         assert_eq!(now, a.day, "case {i}");
     }
-    assert!(changed >= 20_000, "{changed}");
+    println!("{files} files with {classes} classes out of order and {beside} in order");
+    assert!(files >= 5000 && classes >= 5000 && beside >= 5000);
 }
 
-/// The amounts of each offset in percent by the step as it was, and row 12 above 100.
+/// The sorted prices, those of the downside at most the underlying price and those of the upside at least it.
 #[test]
-fn amounts_and_refusals_stay() {
-    let converted = |a: Account| reckon(&in_hundredths(&a.day), &a.batch);
-    for percent in 0..=100 {
-        for credit in [0, 1, 99, 100, 101, 199] {
-            let left = 200 - i128::from(credit * percent / 100);
-            assert_eq!(converted(with_credit(percent, credit)).expect("accepted").lines[0].amounts[3], left, "{percent}");
+fn prices_put_in_order() {
+    let mut a = with_underlying(51_000);
+    let class = class_at(1);
+    let mut put = |underlying: u32, given: [u32; 10], expected: [u32; 10]| {
+        let kind = 3 << 29;
+        a.day[class + UNDERLYING] = kind | underlying;
+        a.day[class + PROJECTED..class + CLASS_WORDS].copy_from_slice(&given.map(|p| kind | p));
+        assert_eq!(with_prices_in_order(&a.day)[class + PROJECTED..class + CLASS_WORDS], expected.map(|p| kind | p));
+    };
+    // upside 2 and downside 2 exchanged, as the vendor had them
+    put(51, [46, 47, 48, 53, 50, 52, 49, 54, 55, 56], [46, 47, 48, 49, 50, 52, 53, 54, 55, 56]);
+    put(49, [46, 47, 48, 49, 50, 52, 53, 54, 55, 56], [46, 47, 48, 49, 49, 52, 53, 54, 55, 56]);
+    put(54, [46, 47, 48, 49, 50, 52, 53, 54, 55, 56], [46, 47, 48, 49, 50, 54, 54, 54, 55, 56]);
+    put(0, [5, 4, 3, 2, 1, 1, 2, 3, 4, 5], [0, 0, 0, 0, 0, 3, 4, 4, 5, 5]);
+    put(9, [1, 1, 1, 1, 1, 1, 1, 1, 1, 0], [0, 1, 1, 1, 1, 9, 9, 9, 9, 9]);
+}
+
+/// A file whose projected prices are all the underlying price has every answer that doesn't read them.
+#[test]
+fn answers_stay() {
+    let mut rng = Rng::new(94);
+    let (mut reports, mut moved, mut refusals) = (0, 0, 0);
+    for i in 0..20_000 {
+        let mut a = account(&mut rng, mixed(i));
+        out_of_order(&mut rng, &mut a.day, 1);
+        if i % 3 == 0 {
+            damage(&mut rng, &mut a);
+        }
+        if !refused_by_18(&a.day) {
+            continue;
+        }
+        let mut flat = a.day.clone();
+        for class in flat[1..class_at(counts(&a.day).0)].chunks_mut(CLASS_WORDS) {
+            let underlying = class[UNDERLYING];
+            class[PROJECTED..].fill(underlying);
+        }
+        let now = with_prices_in_order(&a.day);
+        let [printed, before] = [&now, &flat].map(|day| text(&reckon(day, &a.batch)));
+        // the edition before gave this account, with these prices, what this one gives
+        let changed = heads(&flat, &now, &a.batch).unwrap_or_default();
+        assert!(is_kept(&before, &printed, &changed), "case {i}");
+        let refused = printed.starts_with("REFUSED");
+        *if refused { &mut refusals } else { &mut reports } += 1;
+        moved += usize::from(printed != before);
+        assert!(!refused || changed.is_empty(), "case {i}");
+    }
+    println!("{reports} reports, {moved} with amounts by projected prices, {refusals} refusals");
+    assert!(reports >= 5000 && moved >= 1000 && refusals >= 1000);
+}
+
+/// What is held to be kept of a text: of the lines named book, group, spread, MTM and premium, else all.
+#[test]
+fn changes_of_a_text_that_are_not_kept() {
+    let before = "MARGIN 2\nO 3 1 2 3 4 10 0\nO 31 1 2 3 4 10 0\nTOTAL 20 0 20\n";
+    let kept = |after: &str, heads: &[&str]| is_kept(before, after, &heads.iter().map(|h| h.to_string()).collect());
+    let moved = before.replace("O 3 1 2 3 4 10", "O 3 1 2 3 5 11").replace("20", "21");
+    assert!(kept(before, &[]) && kept(before, &["O 3 "]) && kept(&moved, &["O 3 "]));
+    assert!(!kept(&moved, &[]) && !kept(&moved, &["O 31 "]));
+    for (from, to) in
+        [("O 3 1", "O 3 7"), ("1 2 3 4 10 0\nO", "1 7 3 4 10 0\nO"), ("3 4 10 0\nO", "7 4 10 0\nO"), ("31 1 2 3 4", "31 1 2 3 7")]
+    {
+        assert!(!kept(&before.replace(from, to), &["O 3 "]), "{to}");
+    }
+    assert!(!kept("REFUSED 18 0\n", &["O 3 "]) && !kept("MARGIN 1\nO 3 1 2 3 4 10 0\nTOTAL 20 0 20\n", &["O 3 "]));
+}
+
+/// No prices changed, or no net of an exercised option: no line moves.
+#[test]
+fn lines_that_read_projected_prices() {
+    let before = with_underlying(51_000);
+    let mut after = before.day.clone();
+    after[class_at(2) - 1] += 1;
+    let of = |batch: &[u32]| heads(&before.day, &after, batch);
+    assert_eq!(of(&before.batch).expect("accepted").into_iter().collect::<Vec<_>>(), ["O 3 "]);
+    assert!(heads(&before.day, &before.day, &before.batch).expect("accepted").is_empty());
+    // of the class whose prices stay; flat; open
+    for (at, w) in [(7, 2 << 29 | 1 << 8), (9, 4 << 29 | 3), (7, 2 << 29 | 1)] {
+        let mut batch = before.batch.clone();
+        batch[at] = w;
+        assert!(of(&batch).expect("accepted").is_empty(), "word {at}");
+    }
+    assert_eq!(of(&before.batch[1..]).err(), Some(Refusal { number: 20, place: 0 }));
+}
+
+/// A second run changes nothing.
+#[test]
+fn every_case_is_of_this_edition() {
+    for c in converted() {
+        assert_eq!((c.days, c.outcomes), (0, 0), "{}", c.name);
+        for (path, content) in c.files {
+            assert!(fs::read(top().join(&path)).expect("a file") == content, "{}", path.display());
         }
     }
-    for percent in [101, 102, 10_000, 10_001, 5_368_709, 5_368_710, 42_949_673, 536_870_911] {
-        assert_eq!(converted(with_credit(percent, 101)), Err(Refusal { number: 12, place: 0 }), "{percent}");
-    }
-}
-
-/// A second run ends before it writes.
-#[test]
-fn no_case_is_of_the_edition_before() {
-    assert!(std::panic::catch_unwind(files).is_err());
 }
