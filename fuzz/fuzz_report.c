@@ -265,7 +265,7 @@ static size_t mutate(uint8_t *data, size_t size, size_t most, uint64_t seed) {
         uint8_t *at = words + 4 * (next_random(&state) % count);
         size_t classes = day_words ? get(day) & 127u : 0, records = batch_words / 6;
         size_t series_at = 1 + 20 * classes, series = day_words > series_at ? (day_words - series_at) / SERIES_WORDS : 0;
-        switch (next_random(&state) % 12) {
+        switch (next_random(&state) % 13) {
         case 0: put(at, get(at) ^ 1u << next_random(&state) % 32); break;
         case 1:
         case 2: put(at, (get(at) & 7u << 29) | payloads[next_random(&state) % (sizeof payloads / sizeof *payloads)]); break;
@@ -322,6 +322,19 @@ static size_t mutate(uint8_t *data, size_t size, size_t most, uint64_t seed) {
                 memmove(deposits, deposits + 8, size - HEAD - 8);
                 size -= 8;
                 data[4] = (uint8_t)(p.deposits - 2);
+            }
+            break;
+        case 11: /* projected prices of a class: all at its underlying price, which is in order, or two neighbours exchanged */
+            if (classes > 0 && day_words >= series_at) {
+                uint8_t *one = day + 4 * (1 + 20 * (next_random(&state) % classes));
+                uint8_t *price = one + 4 * (10 + next_random(&state) % 9);
+                uint32_t w = get(price);
+                if (next_random(&state) & 1) {
+                    for (size_t i = 10; i < 20; i++) put(one + 4 * i, get(one + 4));
+                } else {
+                    put(price, get(price + 4));
+                    put(price + 4, w);
+                }
             }
             break;
         default: /* number of words of deposits, day length or the end of the batch */

@@ -31,6 +31,7 @@ static const char *refusal_text(uint32_t number) {
     case MARS_DAY_WORD: return "day file: word of a record";
     case MARS_CLASS_ORDER: return "class number not above the one before";
     case MARS_CLASS_OFFSET: return "offset differs within the group";
+    case MARS_PRICE_ORDER: return "projected prices of a class out of order";
     case MARS_SERIES_CLASS: return "series of an absent class";
     case MARS_SERIES_ORDER: return "series not above the one before";
     case MARS_SERIES_TYPE: return "type of a series";

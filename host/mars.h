@@ -178,6 +178,7 @@ enum mars_refusal {
     MARS_DAY_WORD = 12,         /* a class or series: wrong kind, spare bit, out of range; place: classes, then series */
     MARS_CLASS_ORDER = 13,      /* class number not above the one before; place: class */
     MARS_CLASS_OFFSET = 14,     /* offset differs from an earlier class of the group; place: class */
+    MARS_PRICE_ORDER = 18,      /* projected prices fall, or the underlying is outside downside 1 to upside 1; place: class */
     MARS_SERIES_CLASS = 15,     /* the series' class is absent; place: series, here and in the two below */
     MARS_SERIES_ORDER = 16,     /* key, then strike, not above the series before */
     MARS_SERIES_TYPE = 17,      /* type unknown, or serial, strike, expiry or adjustment not 0 where the type has none */

@@ -1,6 +1,6 @@
 /* Calls at the edges: unaligned and empty inputs, short memories, memories at the border of inaccessible pages, threads;
- * bad words of a batch by record and field; many accounts in one call; deposits; batches rewritten and records added; printed texts
- * read back. */
+ * bad words of a batch by record and field; prices of a class in order and not; many accounts in one call; deposits; batches rewritten
+ * and records added; printed texts read back. */
 #define _DEFAULT_SOURCE
 #include "mars.h"
 
@@ -593,10 +593,16 @@ static void texts(void) {
     for (size_t i = 0; i < sizeof damaged / sizeof damaged[0]; i++) reads_refusal(damaged[i], MARS_UNREADABLE, 0);
 }
 
+/* The file with word `at` replaced. */
+static uint8_t *replaced(struct file f, size_t at, uint32_t word) {
+    uint8_t *changed = exact(f.bytes, f.length);
+    for (size_t i = 0; i < 4; i++) changed[4 * at + i] = (uint8_t)(word >> 8 * i);
+    return changed;
+}
+
 /* The call with word `at` of the batch replaced must be refused so, and the refusal's place be that field of that record. */
 static void refuses_word(size_t at, uint32_t word, uint32_t number, uint32_t record, enum mars_field field) {
-    uint8_t *changed = exact(batch.bytes, batch.length);
-    for (size_t i = 0; i < 4; i++) changed[4 * at + i] = (uint8_t)(word >> 8 * i);
+    uint8_t *changed = replaced(batch, at, word);
     uint64_t result = guarded(day.bytes, day.length, changed, batch.length, MARS_REPORT_BYTES, "bad word");
     check(mars_number(result) == number && mars_names_word(number), "bad word: number", at);
     check(mars_batch_record(mars_value(result)) == record && mars_batch_field(mars_value(result)) == field, "bad word: place", at);
@@ -623,6 +629,29 @@ static void bad_words(void) {
         check(mars_names_word(number) == (number == 22 || number == 27 || number == 28), "bad word: which rows", number);
 }
 
+/* The call with a price of the day file's one class replaced, by the price's word in the class. */
+static uint64_t with_price(size_t word, uint32_t price) {
+    uint8_t *changed = replaced(day, 1 + word, 3u << 29 | price);
+    uint64_t result = guarded(changed, day.length, batch.bytes, batch.length, MARS_REPORT_BYTES, "price order");
+    free(changed);
+    return result;
+}
+
+/* The underlying price is word 1 of a class, its projected prices are words 10 to 19, downside 1 and upside 1 in their middle. No
+ * line of the account reads them. */
+static void price_order(void) {
+    uint32_t prices[20];
+    uint64_t refused = refusal(MARS_PRICE_ORDER, 0);
+    for (size_t i = 1; i < 20; i++) prices[i] = mars_word(day.bytes, 1 + i) & 0x1fffffffu;
+    for (size_t i = 11; i < 20; i++) {
+        check(with_price(i, prices[i - 1] - 1) == refused, "price order: below the one before", i);
+        /* upside 1 at downside 1 leaves the underlying price above both */
+        check(with_price(i, prices[i - 1]) == (i == 15 ? refused : expected_result), "price order: equal", i);
+    }
+    check(with_price(1, prices[14]) == expected_result && with_price(1, prices[14] - 1) == refused, "price order: downside 1", 1);
+    check(with_price(1, prices[15]) == expected_result && with_price(1, prices[15] + 1) == refused, "price order: upside 1", 1);
+}
+
 /* The arguments are the folders of the samples `fail` and `spread`. */
 int main(int argc, char **argv) {
     if (argc != 3) {
@@ -638,6 +667,7 @@ int main(int argc, char **argv) {
     memories();
     inputs();
     bad_words();
+    price_order();
     borders();
     threads();
     accounts();
