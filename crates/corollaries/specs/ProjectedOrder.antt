@@ -1,7 +1,8 @@
 -- What row 18 asks of a class (U8), for a reader: the ten projected prices rise from downside 5 to upside 5, and the underlying price lies between the two next to it.
-use Rattle.std.specs.Prelude.{◌≡◌, refl, Bool, false, Option, Some, None, is_some, List, ℕ, ◌||◌, suc, ◌+◌, ◌≤◌, ◌<◌, ltb, Ok}
-use Rattle.std.proofs.Common.{arith, ap, le_refl, le-ltb, ltb-false, true≢false}
+use Rattle.std.specs.Prelude.{◌≡◌, false, is_some, List, ℕ, ◌||◌, suc, ◌+◌, ◌≤◌, ◌<◌, ltb, Ok}
+use Rattle.std.proofs.Common.{arith, ap, le_refl, le-ltb, ltb-false}
 use native.Mathlib.Decide.{le_ind}
+use Rattle.numbers.specs.Lists.{nothing_hit}
 use Rattle.numbers.specs.Scan.{first_bad, any_below, first-none, first_clear}
 use Rattle.numbers.specs.Tests.{or_left, or_right}
 use Rattle.model.specs.DayFile.{class_count, underlying, projected}
@@ -15,20 +16,13 @@ pub record InOrder (d : List ℕ) (c : ℕ) : Type 0 where
   pub not_below : projected d c downside1 ≤ underlying d c
   pub not_above : underlying d c ≤ projected d c upside1
 
-none : (t : ℕ → Bool) (n : ℕ) → any_below n t ≡ false → first_bad t n ≡ None
-none t n e = by (first_bad t n) e
-  where
-    by : (f : Option ℕ) → is_some f ≡ false → f ≡ None
-    by None q = refl
-    by (Some i) q = absurd (true≢false q)
-
 module _ (d : List ℕ) (c : ℕ) where
   -- the classes that row 18 passes
   pub in_order : row18 d c ≡ false → InOrder d c
   unfolding row18 projected_falls
   in_order e =
       let a : (any_below upside5 (projected_falls d c) || ltb (underlying d c) (projected d c downside1)) ≡ false = or_left _ _ e in
-      let clear = first_clear (projected_falls d c) upside5 (none (projected_falls d c) upside5 (or_left _ _ a)) in
+      let clear = first_clear (projected_falls d c) upside5 (nothing_hit (first_bad (projected_falls d c) upside5) (or_left _ _ a)) in
       let next : (k : ℕ) → k < upside5 → projected d c k ≤ projected d c (suc k) =
       λ k l.
       let e : k + 1 ≡ suc k = omega arith in
