@@ -1,8 +1,8 @@
 -- What cover does to the nets (U5), for a reader: no net turns long and none grows, a class's net short falls by the contracts covered and no more, a series is used up before the next is touched, and without deposits nothing changes.
 use Rattle.std.specs.Prelude.{◌≡◌, Bool, false, not, ◌&&◌, ◌||◌, ◌⊎◌, List, [], ◌∷◌, ℕ, zero, suc, ◌+◌, ◌-◌, ◌/◌, ◌^◌, ◌≤◌, ◌<◌, min, ltb, eqb, ℤ, pos, negsuc, nat_abs}
 use Rattle.std.proofs.Math.Path.{refl, ap}
-use Rattle.std.proofs.Common.{sym, ◌∙◌, inl, inr, arith}
-use Rattle.std.proofs.Math.Bool.{true}
+use Rattle.std.proofs.Common.{sym, ◌∙◌, inl, inr, arith, le_of_eq}
+use Rattle.std.proofs.Math.Bool.{true, cond}
 use Rattle.std.proofs.Math.Decide.{dec_lt}
 use Rattle.std.proofs.Math.Nat.{zero-div}
 use borrow.Author.Tests.{eq-eqb, eqb-true, ne_eqb, le-ltb, not-false}
@@ -14,14 +14,14 @@ use Rattle.numbers.specs.Order.{Order, by_place, larger_then, place_order, large
 use Rattle.numbers.specs.Taking.{left_at, before_more, left-sum}
 use Rattle.model.specs.Outcomes.{Verdict}
 use Rattle.model.specs.Rows.{tried}
-use Rattle.model.specs.DayFile.{class_count, class_place, series_count, series_type, series_class, expiry, multiplier}
+use Rattle.model.specs.DayFile.{class_count, class_place, series_count, series_type, series_class, expiry, multiplier, is_future}
 use Rattle.model.specs.DayChecks.{day_check}
 use Rattle.model.specs.BatchChecks.{batch_check}
 use Rattle.model.specs.Netting.{position, net, dvp, netting_check}
 use Rattle.model.specs.Deposits.{deposit_count, named_number, shares_of}
 use Rattle.model.specs.DepositChecks.{unlike, row51}
 use Rattle.model.specs.Steps.Classes.{of_class, future_of}
-use Rattle.model.specs.Steps.Cover.{is_coverable, coverable_of, short_size, reduced, contracts_covered, short_of, goes_before, cover_before, series_covered, covered}
+use Rattle.model.specs.Steps.Cover.{is_coverable, coverable_of, open_rank, among_equals, short_size, reduced, contracts_covered, short_of, goes_before, cover_before, series_covered, covered}
 use Rattle.model.specs.Steps.Spread.{long_side}
 use Rattle.model.specs.Report.{report_words}
 use Rattle.model.specs.Calls.{verdict, report}
@@ -34,6 +34,11 @@ use Rattle.model.proofs.DepositOrders.{few_deposits_lem}
 -- the net short in the ordinary book of the series of class c that deposits cover
 abbrev pub class_short : List ℕ → (ℕ → ℤ) → ℕ → ℕ
 class_short d n c = sum_n_where (series_count d) (coverable_of d c) (short_of d n)
+
+-- the net shorts of two series are equal, and their expiries
+pub record Alike (d : List ℕ) (n : ℕ → ℤ) (s t : ℕ) : Type 0 where
+  pub size : short_of d n s ≡ short_of d n t
+  pub month : expiry d s ≡ expiry d t
 
 pub record Covered : Type 0 where
   -- "no net turns long": the long side of every position stays
@@ -52,10 +57,16 @@ pub record Covered : Type 0 where
   pub used_up : (d x : List ℕ) (n : ℕ → ℤ) (c s u : ℕ) → DepositRows d x → s < series_count d → u < series_count d
       → coverable_of d c s ≡ true → coverable_of d c u ≡ true → goes_before d n s u ≡ true
       → short_of d (covered d x n) u < short_of d n u → short_of d (covered d x n) s ≡ 0
-  -- "from the largest net short on, and among equals from the further expiry": in an accepted day file nothing else decides
+  -- "from the largest net short on, and among equals from the further expiry": among the open futures of an accepted day file nothing else decides
   pub order : (d : List ℕ) (n : ℕ → ℤ) (c s t : ℕ) → DayRows d → c < class_count d → s < series_count d → t < series_count d
       → future_of d c s ≡ true → future_of d c t ≡ true
       → goes_before d n t s ≡ (ltb (short_of d n s) (short_of d n t) || (eqb (short_of d n t) (short_of d n s) && ltb (expiry d s) (expiry d t)))
+  -- "where both agree, the open one goes first, then the lower series place" (U9)
+  pub open_first : (d : List ℕ) (n : ℕ → ℤ) (s t : ℕ) → Alike d n s t → is_future (series_type d s) ≡ true → is_future (series_type d t) ≡ false → goes_before d n s t ≡ true
+  pub lower_first : (d : List ℕ) (n : ℕ → ℤ) (s t : ℕ) → Alike d n s t → is_future (series_type d s) ≡ is_future (series_type d t) → goes_before d n s t ≡ ltb s t
+  -- row 51: the futures of a class that it passes, open and expired, have one multiplier
+  pub one_multiplier : (d : List ℕ) (c s t : ℕ) → unlike d c ≡ false → s < series_count d → t < series_count d
+      → coverable_of d c s ≡ true → coverable_of d c t ≡ true → multiplier d s ≡ multiplier d t
   -- "a class that .. was named by an earlier deposit" is refused, so no more pass than there are class numbers, of six bits
   pub few_deposits : (d x : List ℕ) → DepositRows d x → deposit_count x ≤ 2 ^ 6
   -- with no deposits: the rows are those up to 30, and the amounts are of the nets
@@ -84,7 +95,9 @@ never_long_lem d x n p = let r = is_reduced d x n p in ap long_side r.1 ∙ redu
 module _ (d x : List ℕ) (n : ℕ → ℤ) where
   order : Order (goes_before d n)
   unfolding goes_before
-  order = larger_order (short_of d n) (larger_then (expiry d) by_place) (larger_order (expiry d) by_place place_order)
+  order =
+      larger_order (short_of d n) (among_equals d)
+      (larger_order (expiry d) (larger_then (open_rank d) by_place) (larger_order (open_rank d) by_place place_order))
 
   module _ (c m : ℕ) (alike : (s : ℕ) → s < series_count d → coverable_of d c s ≡ true → multiplier d s ≡ m) where
     -- the contracts that its deposit covers
@@ -207,8 +220,12 @@ by_size_and_expiry : (d : List ℕ) (n : ℕ → ℤ) (c s t : ℕ) → DayRows 
 unfolding goes_before
 by_size_and_expiry d n c s t r hc hs ht fs ft =
     ap (λ (b : Bool). ltb (short_of d n s) (short_of d n t) || (eqb (short_of d n t) (short_of d n s) && b))
-    (ap (λ (b : Bool). ltb (expiry d s) (expiry d t) || b) (place_off (dec_lt s t) (dec_lt t s)) ∙ or_false (ltb (expiry d s) (expiry d t)))
+    (ap (λ (b : Bool). ltb (expiry d s) (expiry d t) || b) (ap (λ (b : Bool). eqb (expiry d t) (expiry d s) && b) both_open ∙ place_off (dec_lt s t) (dec_lt t s))
+    ∙ or_false (ltb (expiry d s) (expiry d t)))
   where
+    both_open : larger_then (open_rank d) by_place t s ≡ ltb t s
+    both_open = rw (and_right (of_class d c s) (is_future (series_type d s)) fs, and_right (of_class d c t) (is_future (series_type d t)) ft)
+
     off : ltb t s ≡ false → (eqb (expiry d t) (expiry d s) && ltb t s) ≡ false
     off e = ap (λ (b : Bool). eqb (expiry d t) (expiry d s) && b) e ∙ and_false (eqb (expiry d t) (expiry d s))
 
@@ -217,6 +234,26 @@ by_size_and_expiry d n c s t r hc hs ht fs ft =
     place_off (no h) (yes l) =
         ap (λ (b : Bool). b && ltb t s) (ne_eqb (expiry d t) (expiry d s) (λ e. let z = expiry_order d c t s r hc l hs ft fs in omega arith))
     place_off (no h) (no l) = off (le-ltb t s (omega arith))
+
+-- series s and t with equal net shorts and expiries
+module _ (d : List ℕ) (n : ℕ → ℤ) (s t : ℕ) (a : Alike d n s t) where
+  by_rank : goes_before d n s t ≡ larger_then (open_rank d) by_place s t
+  unfolding goes_before
+  by_rank =
+      rw (
+        le-ltb (short_of d n t) (short_of d n s) (le_of_eq a.size),
+        eq-eqb (short_of d n s) (short_of d n t) a.size,
+        le-ltb (expiry d t) (expiry d s) (le_of_eq a.month),
+        eq-eqb (expiry d s) (expiry d t) a.month,
+      )
+
+  open_before : is_future (series_type d s) ≡ true → is_future (series_type d t) ≡ false → goes_before d n s t ≡ true
+  open_before p q = by_rank ∙ rw (p, q)
+
+  lower_before : is_future (series_type d s) ≡ is_future (series_type d t) → goes_before d n s t ≡ ltb s t
+  lower_before p =
+      let e : open_rank d s ≡ open_rank d t = ap (λ (b : Bool). cond b 1 0) p in
+      by_rank ∙ rw (le-ltb (open_rank d t) (open_rank d s) (le_of_eq e), eq-eqb (open_rank d s) (open_rank d t) e)
 
 -- ---- no deposits
 
@@ -235,6 +272,9 @@ cover_theorems =
       taken = λ d x n s r. class_taken d x r n s;
       used_up = λ d x n c s u r. used_up_lem d x r n c s u;
       order = by_size_and_expiry;
+      open_first = open_before;
+      lower_first = lower_before;
+      one_multiplier = like_multipliers;
       few_deposits = few_deposits_lem;
       none_checked = none_checked_lem;
       none_reported = λ d b. ap (λ (u : ℕ → ℤ). report_words d (net b) u (dvp b)) (covered_no_deposits d (net b));

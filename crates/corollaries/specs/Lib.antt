@@ -7,6 +7,7 @@ pub mod OpenPrices
 pub mod OffsetUnits
 pub mod ProjectedOrder
 pub mod Covered
+pub mod Expired
 pub mod TwoGroups
 pub mod RuledOut
 pub mod Corollaries

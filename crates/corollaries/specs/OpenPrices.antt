@@ -26,7 +26,7 @@ module _ (d : List ℕ) (s k : ℕ) (z : ℤ) where
       by true e = open_short d s k z e ∙ short_elsewhere d s k h
       by false e = open_not-short d s k z e
 
--- no option is a future
+-- no option is an open future
 no_future : (t : ℕ) → is_option t ≡ true → is_future t ≡ false
 no_future t h = by (is_call t) refl h
   where

@@ -2,19 +2,21 @@
 ghost use Rattle.std.specs.Prelude.{◌≡◌, true, ◌*◌, ◌<◌};
 ghost use Rattle.model.specs.DayFile.{class_count, series_count, series_class, series_type};
 ghost use Rattle.model.specs.Netting.{places};
-ghost use Rattle.model.specs.Steps.Cover.{is_coverable, short_size, cover_before};
+ghost use Rattle.model.specs.Steps.Cover.{is_coverable, open_rank, short_size, cover_before};
 ghost use Rattle.model.specs.Steps.Positions.{open_net};
 ghost use Rattle.cover.specs.Accounts.{account_day, account_net};
 ghost use Rattle.holdings.specs.Seen.{day_of, net_of};
 ghost use Rattle.cover.specs.Keys.{order_key, key_adds, key_table};
 
 use crate::account::Account;
-use day_file::MOST_SERIES;
+use day_file::{MOST_SERIES, Series};
 use holdings::Holdings;
 use positions::{Book, Holding, position_amount};
 
-// What an expiry counts for in an order key, behind the places, and a net short, behind the expiries, of twelve bits.
-const EXPIRY_UNIT: u64 = MOST_SERIES as u64;
+// What an open future counts for in an order key, behind the places; an expiry, behind that; a net short, behind the expiries, of twelve bits.
+const OPEN_UNIT: u64 = MOST_SERIES as u64;
+
+const EXPIRY_UNIT: u64 = 2 * OPEN_UNIT;
 
 const SHORT_UNIT: u64 = 4096 * EXPIRY_UNIT;
 
@@ -41,8 +43,15 @@ fn short_of(before: &Holdings<'_>, s: usize) -> u64
     short_size(position_amount(before.nets, Book::Ordinary, Holding::Open, s))
 }
 
-// The order key of series s: the larger net short, among equals the further expiry, then the lower place has the larger key. 0 if
-// deposits do not cover it.
+// 1 for an open future, 0 for an expired one.
+fn open_rank(series: &Series) -> u64
+    ensures { (result ≡ open_rank series.now.day.now series.now.place) × (result < 2) }
+{
+    if series.is_future() { 1 } else { 0 }
+}
+
+// The order key of series s: the larger net short, among equals the further expiry, then an open future, then the lower place has the
+// larger key. 0 if deposits do not cover it.
 fn order_key(before: &Holdings<'_>, s: usize) -> u64
     requires { s < series_count (day_of before.now) }
     ensures { result ≡ order_key (day_of before.now) (net_of before.now) s }
@@ -53,7 +62,10 @@ fn order_key(before: &Holdings<'_>, s: usize) -> u64
     }
     let short = short_of(before, s);
     let expiry = u64::from(series.expiry());
-    SHORT_UNIT * short + EXPIRY_UNIT * expiry + (MOST_SERIES - 1 - s) as u64
+    SHORT_UNIT * short
+        + EXPIRY_UNIT * expiry
+        + OPEN_UNIT * open_rank(&series)
+        + (MOST_SERIES - 1 - s) as u64
 }
 
 // The order keys of all series. One number a series, since a comparison part by part took up to four times as long (docs/DECISIONS.md).

@@ -2,7 +2,7 @@
 #![tactic(auto)]
 
 ghost use Rattle.std.specs.Prelude.{◌≡◌, ◌+◌, ◌*◌, ◌≤◌, ◌<◌, length};
-ghost use Rattle.model.specs.DayFile.{day_header, class_count, series_count, class_word, class_number, spot_rate, non_spot_rate, option_rate, future_rate, equity_rate, warrant_rate, rights_rate, series_word, series_key, series_type, series_class_number, class_at, series_at, class_words, series_words, is_future, is_call, is_put, is_option, is_security};
+ghost use Rattle.model.specs.DayFile.{day_header, class_count, series_count, class_word, class_number, spot_rate, non_spot_rate, option_rate, future_rate, equity_rate, warrant_rate, rights_rate, series_word, series_key, series_type, series_class_number, class_at, series_at, class_words, series_words, is_future, is_expired, is_call, is_put, is_option, is_security};
 ghost use Rattle.model.specs.DayFile.{group as group_of, underlying as underlying_of, offset as offset_of, serial as serial_of, expiry as expiry_of, multiplier as multiplier_of, strike as strike_of, closing as closing_of, adjustment as adjustment_of};
 ghost use Rattle.model.specs.Steps.Cover.{is_coverable};
 ghost use Rattle.series_types.specs.Types.{read_type};
@@ -230,7 +230,7 @@ impl<'a> Series<'a> {
         SeriesType::try_from(self.type_number())
     }
 
-    // A future.
+    // An open future.
     pub fn is_future(&self) -> bool
         ensures { result ≡ is_future (series_type self.now.day.now self.now.place) }
     {
@@ -263,6 +263,13 @@ impl<'a> Series<'a> {
         series_types::is_security(self.type_number())
     }
 
+    // A future that has expired and awaits delivery.
+    pub fn is_expired(&self) -> bool
+        ensures { result ≡ is_expired (series_type self.now.day.now self.now.place) }
+    {
+        series_types::is_expired(self.type_number())
+    }
+
     // Of a type that deposits cover.
     pub fn is_coverable(&self) -> bool
         ensures { result ≡ is_coverable (series_type self.now.day.now self.now.place) }
@@ -284,7 +291,7 @@ impl<'a> Series<'a> {
         payload(self.word(1))
     }
 
-    // Strike.
+    // Strike, the delivery price of an expired future.
     pub fn strike(&self) -> u32
         ensures { result ≡ strike_of self.now.day.now self.now.place }
     {

@@ -1,6 +1,6 @@
 // What is read of holdings.
-ghost use Rattle.std.specs.Prelude.{◌≡◌, ◌≤◌};
-ghost use Rattle.model.specs.DayFile.{series_count};
+ghost use Rattle.std.specs.Prelude.{◌≡◌, ◌≤◌, pos, ◌-ℤ◌};
+ghost use Rattle.model.specs.DayFile.{series_count, underlying, strike};
 ghost use Rattle.model.specs.Netting.{position};
 ghost use Rattle.positions.specs.Books.{holding_number};
 ghost use Rattle.holdings.specs.Seen.{class_day, class_from, class_to, series_day, series_net, series_dvp, series_book};
@@ -34,6 +34,15 @@ impl SeriesHoldings<'_, '_> {
         ensures { (result.day.now ≡ series_day self.now) × (result.place ≡ self.now.place) }
     {
         self.class.account.day.series(self.place)
+    }
+
+    // The underlying price − the strike, which is the delivery price of an expired future.
+    pub fn above_strike(&self) -> i64
+        ensures { result ≡ pos (underlying (series_day self.now) self.now.class.now.class) -ℤ pos (strike (series_day self.now) self.now.place) }
+    {
+        let underlying = i64::from(self.class.class().underlying());
+        let strike = i64::from(self.series().strike());
+        underlying - strike
     }
 
     // The net of a position.

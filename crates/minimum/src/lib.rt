@@ -32,7 +32,7 @@ fn type_nets(class: &ClassHoldings) -> [i64; TYPE_SLOTS]
     sums
 }
 
-// The rate of a type: calls and puts both have the options rate.
+// The rate of a type: calls and puts both have the options rate, an expired future has no minimum.
 fn minimum_rate(class: &Class, t: SeriesType) -> u32
     ensures { result ≡ minimum_rate class.now.day.now class.now.place (type_number t) }
 {
@@ -42,6 +42,7 @@ fn minimum_rate(class: &Class, t: SeriesType) -> u32
         SeriesType::Equity => class.equity_rate(),
         SeriesType::Warrant => class.warrant_rate(),
         SeriesType::Rights => class.rights_rate(),
+        SeriesType::ExpiredFuture => 0,
     }
 }
 
@@ -60,7 +61,7 @@ pub fn minimum(class: &ClassHoldings) -> i64
     let sums = type_nets(class);
     let of = class.class();
     let mut sum = 0;
-    for t in SeriesType::ALL {
+    for t in SeriesType::WITH_MINIMUM {
         let net = sums[t.number() as usize];
         sum += type_minimum(net, minimum_rate(&of, t));
     }

@@ -11,7 +11,7 @@ use lib.ListN.{get_or}
 use Rattle.numbers.specs.Budget.{sum-pos, sum_n_ext}
 use Rattle.numbers.specs.Lists.{sum-keep}
 use Rattle.numbers.specs.Perms.{sum_of, sum_to_of, sum-perm}
-use Rattle.model.specs.DayFile.{series_count, series_type, series_class, series_group, group, expiry, multiplier, class_place}
+use Rattle.model.specs.DayFile.{series_count, series_type, series_class, series_group, group, multiplier, class_place}
 use Rattle.model.specs.Limits.{most_series}
 use Rattle.model.specs.Netting.{places, position}
 use Rattle.model.specs.Deposits.{deposit_count, named_number, shares, shares_of}
@@ -51,7 +51,7 @@ module _ (d x₁ x₂ : List ℕ) (n₁ v₁ n₂ v₂ : ℕ → ℤ) (g : ℕ) 
         λ i.
         cond
         (ltb (Steps.short_size (p i)) (Steps.short_size (q i))
-        || (eqb (Steps.short_size (q i)) (Steps.short_size (p i)) && (ltb (expiry d s) (expiry d t) || (eqb (expiry d t) (expiry d s) && ltb t s))))
+        || (eqb (Steps.short_size (q i)) (Steps.short_size (p i)) && Steps.among_equals d t s))
         (Steps.short_size (q i)) 0
     term_same t false h = refl
 

@@ -1,4 +1,4 @@
--- In an accepted day file the futures of a class stand by rising expiry, so the first place held is the earliest expiry held.
+-- In an accepted day file the open futures of a class stand by rising expiry, so the first place held is the earliest expiry held.
 use Rattle.std.specs.Prelude.{Option, Some, None, unwrap_or}
 use mathlib.Core.Path.{◌≡◌, refl, sym, ap, ◌∙◌}
 use mathlib.Core.Bool.{Bool, true, false, not, ◌&&◌, ◌||◌, true≢false}
@@ -63,7 +63,7 @@ module _ (d : List ℕ) (r : DayRows d) where
           let w : class_count d ≡ c = sym (ap (λ (f : Option ℕ). unwrap_or f (class_count d)) p) ∙ q in
           absurd (omega arith)
 
-  -- a future has serial 0 and strike 0
+  -- an open future has serial 0 and strike 0
   module _ (s : ℕ) (h : s < series_count d) (f : is_future (series_type d s) ≡ true) where
     abbrev A : Bool
     A = not (is_derivative (series_type d s) || is_security (series_type d s))
@@ -96,7 +96,7 @@ module _ (d : List ℕ) (r : DayRows d) where
         let q : ltb 0 (strike d s) ≡ false = rw f at p in
         omega (arith, ltb-false 0 (strike d s) q)
 
--- futures are of one type
+-- open futures are of one type
 one_future : (t u : ℕ) → is_future t ≡ true → is_future u ≡ true → t ≡ u
 one_future t u p q = eqb-true t _ p ∙ sym (eqb-true u _ q)
 
@@ -124,7 +124,7 @@ expiry_order d c s t r hc h l p q =
     (rw (← ns, no_serial d r s hs fs) at es)
     (rw (← nt, same, no_serial d r t l ft) at et)
 
--- the spot: no future of the class that is held has an earlier expiry
+-- the spot: no open future of the class that is held has an earlier expiry
 pub spot_earliest : (d : List ℕ) (n : ℕ → ℤ) (k c s t : ℕ) → DayRows d → c < class_count d
     → first_bad (held_future d n k c) (series_count d) ≡ Some s → t < series_count d → held_future d n k c t ≡ true → expiry d s ≤ expiry d t
 unfolding held_future

@@ -3,6 +3,7 @@ pub mod Accepted
 pub mod Agreement
 pub mod BatchWords
 pub mod Limits
+pub mod Spreads
 pub mod Lines
 pub mod Nets
 pub mod GoodRecord

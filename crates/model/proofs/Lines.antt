@@ -1,5 +1,5 @@
 -- A line depends on the positions of its group and book alone: where two families of nets and DVPs agree on these, the lines are the same.
-use Rattle.std.specs.Prelude.{Option, Some, None, is_some}
+use Rattle.std.specs.Prelude.{is_some}
 use mathlib.Core.Path.{◌≡◌, refl, ap, ◌∙◌}
 use mathlib.Core.Bool.{Bool, true, false, ◌&&◌, ◌||◌, cond}
 use mathlib.Core.List.{List, [], ◌∷◌}
@@ -8,13 +8,14 @@ use native.Mathlib.Omega.{arith}
 use borrow.Author.Tests.{eqb-true}
 use lib.Dec.{eqb}
 use lib.IntN.{ℤ, pos, ◌+ℤ◌, ◌-ℤ◌, ◌*ℤ◌}
-use Rattle.numbers.specs.Scan.{first_bad, first_at, first_ext}
+use Rattle.numbers.specs.Scan.{first_ext}
 use Rattle.numbers.specs.Sums.{sum_to_ext, sum_where_ext}
-use Rattle.numbers.specs.Extremes.{min_z, max_z, abs_z, largest_ext}
-use Rattle.model.specs.DayFile.{class_count, series_count, series_type, series_class, series_group, group, spot_rate, non_spot_rate, offset, closing, is_future}
+use Rattle.numbers.specs.Extremes.{max_z, abs_z, largest_ext}
+use Rattle.model.specs.DayFile.{class_count, series_count, series_type, series_class, series_group, group, offset, underlying, delivery_price, closing, is_future, is_security}
 use Rattle.model.specs.Netting.{position}
 use Rattle.model.specs.Steps
 use Rattle.numbers.specs.Tests.{and_left}
+use Rattle.model.proofs.Spreads.{spread_alike, non_spread_alike}
 use Rattle.model.specs.Limits.{point_count}
 
 -- the two families agree on the positions of group g in book k
@@ -47,71 +48,18 @@ module _ (d : List ℕ) (n₁ v₁ n₂ v₂ : ℕ → ℤ) (k g : ℕ) (a : Agr
     future_same : (s : ℕ) → s < series_count d → Steps.future_of d c s ≡ true → o₁ s ≡ o₂ s
     future_same s p h = open_same s p (and_left (Steps.of_class d c s) (is_future (series_type d s)) h)
 
-    short_same : Steps.total_short d n₁ k c ≡ Steps.total_short d n₂ k c
-    unfolding Steps.total_short
-    short_same = sum_where_ext (series_count d) (Steps.future_of d c) _ _ (λ s p h. ap Steps.short_side (future_same s p h))
-
-    long_same : Steps.total_long d n₁ k c ≡ Steps.total_long d n₂ k c
-    unfolding Steps.total_long
-    long_same = sum_where_ext (series_count d) (Steps.future_of d c) _ _ (λ s p h. ap Steps.long_side (future_same s p h))
-
-    quantity_same : Steps.spread_quantity d n₁ k c ≡ Steps.spread_quantity d n₂ k c
-    quantity_same = λ i. min_z (long_same i) (short_same i)
-
-    held_by : (b : Bool) (x y : ℤ) → (b ≡ true → x ≡ y) → b && Steps.not_zero x ≡ b && Steps.not_zero y
-    held_by true x y h = ap Steps.not_zero (h refl)
-    held_by false x y h = refl
-
-    held_same : (s : ℕ) → s < series_count d → Steps.held_future d n₁ k c s ≡ Steps.held_future d n₂ k c s
-    unfolding Steps.held_future
-    held_same s p = held_by (Steps.future_of d c s) (o₁ s) (o₂ s) (future_same s p)
-
-    size_same : (f : Option ℕ) → first_bad (Steps.held_future d n₁ k c) (series_count d) ≡ f → Steps.size_at d n₁ k f ≡ Steps.size_at d n₂ k f
-    unfolding Steps.held_future
-    size_same (Some s) h =
-        let z = first_at (Steps.held_future d n₁ k c) (series_count d) s h in
-        ap abs_z (future_same s z.0 (and_left (Steps.future_of d c s) (Steps.not_zero (o₁ s)) z.1))
-    size_same None h = refl
-
-    spot_same : Steps.spot_size d n₁ k c ≡ Steps.spot_size d n₂ k c
-    unfolding Steps.spot_size
-    spot_same =
-        size_same (first_bad (Steps.held_future d n₁ k c) (series_count d)) refl
-        ∙ ap (Steps.size_at d n₂ k) (first_ext (Steps.held_future d n₁ k c) (Steps.held_future d n₂ k c) (series_count d) held_same)
-
-    spot_spread_same : Steps.spot_spread d n₁ k c ≡ Steps.spot_spread d n₂ k c
-    unfolding Steps.spot_spread
-    spot_spread_same = λ i. min_z (spot_same i) (quantity_same i)
-
-    non_spot_same : Steps.non_spot_spread d n₁ k c ≡ Steps.non_spot_spread d n₂ k c
-    unfolding Steps.non_spot_spread
-    non_spot_same = λ i. pos 2 *ℤ quantity_same i -ℤ spot_spread_same i
-
     spread_same : Steps.spread d n₁ k c ≡ Steps.spread d n₂ k c
-    unfolding Steps.spread
-    spread_same = λ i. spot_spread_same i *ℤ pos (spot_rate d c) +ℤ non_spot_same i *ℤ pos (non_spot_rate d c)
-
-    short-before_same : (s : ℕ) → s < series_count d → Steps.short_before d n₁ k c s ≡ Steps.short_before d n₂ k c s
-    unfolding Steps.short_before
-    short-before_same s p = sum_where_ext s (Steps.future_of d c) _ _ (λ t q h. ap Steps.short_side (future_same t (omega arith) h))
-
-    long-before_same : (s : ℕ) → s < series_count d → Steps.long_before d n₁ k c s ≡ Steps.long_before d n₂ k c s
-    unfolding Steps.long_before
-    long-before_same s p = sum_where_ext s (Steps.future_of d c) _ _ (λ t q h. ap Steps.long_side (future_same t (omega arith) h))
-
-    non_spread_same : (s : ℕ) → s < series_count d → Steps.of_class d c s ≡ true → Steps.non_spread d n₁ k c s ≡ Steps.non_spread d n₂ k c s
-    unfolding Steps.non_spread
-    non_spread_same s p h =
-        λ i. Steps.left_over (quantity_same i) (short-before_same s p i) (Steps.short_side (open_same s p h i))
-        -ℤ Steps.left_over (quantity_same i) (long-before_same s p i) (Steps.long_side (open_same s p h i))
+    spread_same = spread_alike d n₁ n₂ k c future_same
 
     mtm_same : Steps.mtm d n₁ v₁ k c ≡ Steps.mtm d n₂ v₂ k c
     unfolding Steps.mtm
     mtm_same =
-        sum_where_ext (series_count d) (Steps.security_of d c) _ _
+        sum_where_ext (series_count d) (Steps.marked_of d c) _ _
         (λ s p h.
         let q = and_left (Steps.of_class d c s) _ h in
-        λ i. Steps.worth d s (open_same s p q i) (pos (closing d s)) -ℤ dvp_same s p q i)
+        λ i.
+        cond (is_security (series_type d s)) (Steps.worth d s (open_same s p q i) (pos (closing d s)) -ℤ dvp_same s p q i)
+        (Steps.worth d s (open_same s p q i) (pos (underlying d c) -ℤ pos (delivery_price d s))))
 
     premium_same : Steps.premium d n₁ k c ≡ Steps.premium d n₂ k c
     unfolding Steps.premium
@@ -123,13 +71,13 @@ module _ (d : List ℕ) (n₁ v₁ n₂ v₂ : ℕ → ℤ) (k g : ℕ) (a : Agr
 
     counted_same : (s : ℕ) → s < series_count d → Steps.of_class d c s ≡ true → Steps.counted_net d n₁ k c s ≡ Steps.counted_net d n₂ k c s
     unfolding Steps.counted_net
-    counted_same s p h = λ i. cond (is_future (series_type d s)) (non_spread_same s p h i) (open_same s p h i)
+    counted_same s p h = λ i. cond (is_future (series_type d s)) (non_spread_alike d n₁ n₂ k c future_same s p (open_same s p h) i) (open_same s p h i)
 
     point_same : (j : ℕ) → Steps.class_point d n₁ k c j ≡ Steps.class_point d n₂ k c j
     unfolding Steps.class_point
     point_same j =
         sum_where_ext (series_count d) (Steps.of_class d c) _ _
-        (λ s p q i. Steps.worth d s (counted_same s p q i) (Steps.open_change d s (counted_same s p q i) j) +ℤ Steps.worth d s (exercised_same s p q i) (Steps.exercised_change d c s j))
+        (λ s p q i. Steps.worth d s (counted_same s p q i) (Steps.open_change d c s (counted_same s p q i) j) +ℤ Steps.worth d s (exercised_same s p q i) (Steps.exercised_change d c s j))
 
     type_same : (t : ℕ) → Steps.type_net d n₁ k c t ≡ Steps.type_net d n₂ k c t
     unfolding Steps.type_net

@@ -13,7 +13,7 @@ use Rattle.numbers.specs.Scan.{first_bad, first_clear}
 use Rattle.numbers.specs.Lists.{nothing_hit}
 use Rattle.numbers.specs.Sums.{sum_to-zero, sum_to_ext, sum_where_zeros}
 use Rattle.numbers.specs.Extremes.{min_z, max_z, abs_z, largest, largest_ext}
-use Rattle.model.specs.DayFile.{class_count, group, spot_rate, non_spot_rate, offset, series_count, series_type, series_group, multiplier, closing, is_future}
+use Rattle.model.specs.DayFile.{class_count, group, spot_rate, non_spot_rate, offset, series_count, series_type, series_group, multiplier, underlying, delivery_price, closing, is_future, is_security}
 use Rattle.model.specs.Netting.{position}
 use Rattle.model.specs.Steps
 use Rattle.numbers.specs.Tests.{or_left, or_right}
@@ -71,7 +71,12 @@ module _ (d : List ℕ) (k : ℕ) where
 
   no_mtm : (c : ℕ) → Steps.mtm d empty empty k c ≡ pos 0
   unfolding Steps.mtm
-  no_mtm c = sum_where_zeros (series_count d) (Steps.security_of d c) _ (λ s. ap (λ (z : ℤ). z -ℤ pos 0) (no_worth s (pos 0) (pos (closing d s)) refl))
+  no_mtm c =
+      sum_where_zeros (series_count d) (Steps.marked_of d c) _
+      (λ s.
+      cond_ind (is_security (series_type d s)) (Steps.security_mtm d empty empty k s) (Steps.expired_mtm d empty k c s) (λ z. z ≡ pos 0)
+      (λ t. ap (λ (z : ℤ). z -ℤ pos 0) (no_worth s (pos 0) (pos (closing d s)) refl))
+      (λ t. no_worth s (pos 0) (pos (underlying d c) -ℤ pos (delivery_price d s)) refl))
 
   no_premium : (c : ℕ) → Steps.premium d empty k c ≡ pos 0
   unfolding Steps.premium
@@ -83,7 +88,7 @@ module _ (d : List ℕ) (k : ℕ) where
   unfolding Steps.class_point
   no_point c j =
       sum_where_zeros (series_count d) (Steps.of_class d c) _
-      (λ s i. no_worth s (Steps.counted_net d empty k c s) (Steps.open_change d s (Steps.counted_net d empty k c s) j) (no_counted c s) i
+      (λ s i. no_worth s (Steps.counted_net d empty k c s) (Steps.open_change d c s (Steps.counted_net d empty k c s) j) (no_counted c s) i
       +ℤ no_worth s (pos 0) (Steps.exercised_change d c s j) refl i)
 
   no_minimum : (c : ℕ) → Steps.minimum d empty k c ≡ pos 0

@@ -7,7 +7,7 @@ use Rattle.model.specs.Accounts.{Figure, all_computed, all_published, minus, ten
 use Rattle.model.specs.Figures.{credit}
 use Rattle.model.specs.Computing.{everything}
 
--- one series of each type; minimum rates 2, 3, 5, 7 and 11 units for options, futures, equities, warrants and rights
+-- one series of each type that has a minimum; rates 2, 3, 5, 7 and 11 units for options, futures, equities, warrants and rights
 abbrev pub types : List ℕ
 types =
     day_file 1 6

@@ -78,7 +78,7 @@ row16 d s =
     && not (ltb (series_key d (s - 1)) (series_key d s)
     || (eqb (series_key d (s - 1)) (series_key d s) && ltb (strike d (s - 1)) (strike d s)))
 
--- no type of 1–6; serial not 0 on types 1–3; strike not 0 on a future; strike or expiry not 0 on a security; adjustment not 0 on a series that is no option (U3)
+-- no type of 1–6 and 8 (U9); serial not 0 on types 1–3 and 8; strike not 0 on an open future; strike or expiry not 0 on a security; adjustment not 0 on a series that is no option (U3)
 unfoldable pub row17 : List ℕ → ℕ → Bool
 row17 d s =
     not (is_derivative (series_type d s) || is_security (series_type d s))

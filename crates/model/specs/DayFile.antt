@@ -103,6 +103,10 @@ multiplier d s = payload (series_word d s 1)
 abbrev pub strike : List ℕ → ℕ → ℕ
 strike d s = payload (series_word d s 2)
 
+-- the strike word of an expired future (U9)
+abbrev pub delivery_price : List ℕ → ℕ → ℕ
+delivery_price = strike
+
 abbrev pub closing : List ℕ → ℕ → ℕ
 closing d s = payload (series_word d s 3)
 
@@ -115,6 +119,7 @@ theoretical d s k = payload (series_word d s (5 + k))
 
 -- ---- types
 
+-- an open future
 abbrev pub is_future : ℕ → Bool
 is_future t = eqb t 1
 
@@ -139,9 +144,17 @@ is_rights t = eqb t 6
 abbrev pub is_security : ℕ → Bool
 is_security t = is_equity t || is_warrant t || is_rights t
 
--- a future or an option
+-- an expired stock future that awaits delivery (U9)
+abbrev pub is_expired : ℕ → Bool
+is_expired t = eqb t 8
+
+-- an open or an expired future, or an option
 abbrev pub is_derivative : ℕ → Bool
-is_derivative t = is_future t || is_option t
+is_derivative t = is_future t || is_expired t || is_option t
+
+-- marked to market: a security or an expired future
+abbrev pub is_marked : ℕ → Bool
+is_marked t = is_security t || is_expired t
 
 -- ---- a class by its number
 

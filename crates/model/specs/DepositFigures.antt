@@ -86,7 +86,7 @@ pub cover_whole : pos (count_in (report four_futures one_held (0 ∷ 300 ∷ [])
 unfolding everything
 cover_whole = refl
 
--- nets of 5 everywhere: of the six types the future alone is covered, and neither exercised or assigned positions nor the fail book are
+-- nets of 5 everywhere: of these six types the open future alone is covered, and neither exercised or assigned positions nor the fail book are
 abbrev five : ℕ → ℤ
 five p = covered types (0 ∷ 7 ∷ []) (λ q. pos 5) p
 

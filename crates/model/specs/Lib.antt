@@ -34,6 +34,7 @@ pub mod AdjustmentFigures
 pub mod DepositFigures
 pub mod OffsetFigures
 pub mod ProjectedFigures
+pub mod ExpiredFigures
 pub mod RewritingFigures
 pub mod Ascii
 pub mod Texts

@@ -15,7 +15,7 @@ projecting n o u l = class_record 2 n (u ∷ replicate 7 0) o l
 abbrev alone : ℕ → List ℕ → List ℤ
 alone u l = answer_numbers (day_file 1 0 (projecting 0 0 u l)) (batch_file 0 [])
 
--- two classes of a group, with these offsets, the second in order or not
+-- two classes of a group, with these offsets and projected prices
 abbrev two : ℕ → ℕ → List ℕ → List ℕ → List ℤ
 two o p l m = answer_numbers (day_file 2 0 (projecting 0 o 51000 l ++ projecting 1 p 51000 m)) (batch_file 0 [])
 

@@ -1,24 +1,41 @@
-// Step 3 of a class in a book: mark-to-market of its securities.
+// Step 3 of a class in a book: mark-to-market of its securities and expired futures.
 #![tactic(auto)]
 
 ghost use Rattle.std.specs.Prelude.{◌≡◌, cond, pos};
-ghost use Rattle.model.specs.DayFile.{series_type, is_security};
-ghost use Rattle.model.specs.Steps.Mtm.{mtm_of, mtm as mtm_sum};
+ghost use Rattle.model.specs.DayFile.{series_type, is_marked};
+ghost use Rattle.model.specs.Steps.Mtm.{security_mtm, expired_mtm, mtm_of, mtm as mtm_sum};
 ghost use Rattle.holdings.specs.Seen.{class_day, class_net, class_dvp, class_book, series_day, series_net, series_dvp, series_book};
 
 use holdings::{ClassHoldings, SeriesHoldings};
 use positions::Holding;
 
-// Of a series, if it is a security: net × multiplier × closing price − DVP. A net of 0 keeps its DVP.
+// Of a security: net × multiplier × closing price − DVP. A net of 0 keeps its DVP.
+fn security_mtm(held: &SeriesHoldings) -> i64
+    ensures { result ≡ security_mtm (series_day held.now) (series_net held.now) (series_dvp held.now) (series_book held.now) held.now.place }
+{
+    let price = i64::from(held.series().closing());
+    held.position(Holding::Open).worth(price) - held.dvp(Holding::Open)
+}
+
+// Of an expired future: net × multiplier × (underlying − delivery price).
+fn expired_mtm(held: &SeriesHoldings) -> i64
+    ensures { result ≡ expired_mtm (series_day held.now) (series_net held.now) (series_book held.now) held.now.class.now.class held.now.place }
+{
+    held.position(Holding::Open).worth(held.above_strike())
+}
+
+// Of a series, 0 for one that is not marked to market.
 fn series_mtm(held: &SeriesHoldings) -> i64
-    ensures { result ≡ cond (is_security (series_type (series_day held.now) held.now.place)) (mtm_of (series_day held.now) (series_net held.now) (series_dvp held.now) (series_book held.now) held.now.place) (pos 0) }
+    ensures { result ≡ cond (is_marked (series_type (series_day held.now) held.now.place)) (mtm_of (series_day held.now) (series_net held.now) (series_dvp held.now) (series_book held.now) held.now.class.now.class held.now.place) (pos 0) }
 {
     let series = held.series();
-    if !series.is_security() {
-        return 0;
+    if series.is_security() {
+        return security_mtm(held);
     }
-    let price = i64::from(series.closing());
-    held.position(Holding::Open).worth(price) - held.dvp(Holding::Open)
+    if series.is_expired() {
+        return expired_mtm(held);
+    }
+    0
 }
 
 // Of a class. A loop of its own: what bounds its sum is another law than premium's.

@@ -3,18 +3,18 @@ use Rattle.std.specs.Prelude.{◌≡◌, refl, Bool, true, false, cond, List, �
 use Rattle.std.proofs.Common.{sym, ◌∙◌, mul-le-mul, le_refl, le_trans, arith}
 use Rattle.std.proofs.Math.Path.{ap}
 use Rattle.std.proofs.Math.IntN.{+ℤ_assoc, zero-*ℤ, *ℤ-zero}
-use Rattle.numbers.specs.Abs.{neg-mul, nat_abs-*, nat_abs-*_le}
+use Rattle.numbers.specs.Abs.{cond_ind, neg-mul, nat_abs-*, nat_abs-*_le}
 use Rattle.numbers.specs.Sums.{sum_where}
 use Rattle.numbers.specs.Table.{tabulate, get_or-tabulate, tabulate_ext}
 use Rattle.model.specs.Limits.{worth_limit, running_limit, contracts_limit, price_limit, point_count}
-use Rattle.model.specs.DayFile.{class_count, series_count, series_type, multiplier, closing, underlying, projected, is_call, is_put, is_future}
+use Rattle.model.specs.DayFile.{class_count, series_count, series_type, multiplier, closing, underlying, projected, is_call, is_put, is_future, is_expired}
 use Rattle.model.specs.Steps.Positions.{open_net, exercised_net}
 use Rattle.model.specs.Steps.Classes.{of_class, worth, signed_by_type}
 use Rattle.model.specs.Steps.Spread.{spread_quantity, short_before, long_before, non_spread}
 use Rattle.model.specs.Steps.Prices.{open_price}
-use Rattle.model.specs.Steps.Points.{open_change, exercised_change, counted_net, point_of, class_point}
+use Rattle.model.specs.Steps.Points.{underlying_change, open_change, exercised_change, counted_net, point_of, class_point}
 use Rattle.model.proofs.Accepted.{DayRows}
-use Rattle.model.proofs.Limits.{closing_limit, projected_limit}
+use Rattle.model.proofs.Limits.{underlying_limit, closing_limit, projected_limit}
 use Rattle.model.proofs.Prices.{open_price_limit}
 use Rattle.model.proofs.Bounds.{by_type_abs, counted_bound, point_so_far}
 use Rattle.classes.specs.Tables.{entry, Given}
@@ -32,9 +32,24 @@ by_type_mul t x y = by (is_call t) (is_put t)
     by false true = neg-mul x y
     by false false = zero-*ℤ y ∙ sym (*ℤ-zero x)
 
--- what a position adds: an open one, from the closing price on; an exercised or assigned one, from the underlying price on
-abbrev pub open_added : List ℕ → ℕ → List ℤ → ℤ → List ℤ
-open_added d s at net = added at (net *ℤ pos (multiplier d s)) (closing d s) (tabulate point_count (open_price d s net))
+-- what an open position moves from, and to at point k: its own prices, or those of the underlying for an expired future
+abbrev pub moves_from : List ℕ → ℕ → ℕ → ℕ
+moves_from d c s = cond (is_expired (series_type d s)) (underlying d c) (closing d s)
+
+abbrev pub moves_to : List ℕ → ℕ → ℕ → ℤ → ℕ → ℕ
+moves_to d c s net k = cond (is_expired (series_type d s)) (projected d c k) (open_price d s net k)
+
+moves_by : (d : List ℕ) (c s : ℕ) (net : ℤ) (k : ℕ) → pos (moves_to d c s net k) -ℤ pos (moves_from d c s) ≡ open_change d c s net k
+moves_by d c s net k = by (is_expired (series_type d s))
+  where
+    by : (b : Bool) → pos (cond b (projected d c k) (open_price d s net k)) -ℤ pos (cond b (underlying d c) (closing d s))
+        ≡ cond b (underlying_change d c k) (pos (open_price d s net k) -ℤ pos (closing d s))
+    by true = refl
+    by false = refl
+
+-- what a position adds: an open one; an exercised or assigned one, from the underlying price on
+abbrev pub open_added : List ℕ → ℕ → ℕ → List ℤ → ℤ → List ℤ
+open_added d c s at net = added at (net *ℤ pos (multiplier d s)) (moves_from d c s) (tabulate point_count (moves_to d c s net))
 
 abbrev pub exercised_added : List ℕ → ℕ → ℕ → List ℤ → ℤ → List ℤ
 exercised_added d c s at net = added at (signed_by_type (series_type d s) (net *ℤ pos (multiplier d s))) (underlying d c) (tabulate point_count (projected d c))
@@ -50,8 +65,8 @@ module _ (d : List ℕ) (s : ℕ) (net : ℤ) where
   no_contracts : nat_abs net ≤ 0 → nat_abs (net *ℤ pos (multiplier d s)) ≤ 0
   no_contracts h = omega (arith, nat_abs-*_le net (pos (multiplier d s)) 0 (multiplier d s) h (le_refl (multiplier d s)))
 
-  pub open_none : (at : List ℤ) → nat_abs net ≤ 0 → length at ≡ point_count → at ≡ open_added d s at net
-  open_none at h l = added_none (net *ℤ pos (multiplier d s)) at (closing d s) (tabulate point_count (open_price d s net)) (no_contracts h) l
+  pub open_none : (c : ℕ) (at : List ℤ) → nat_abs net ≤ 0 → length at ≡ point_count → at ≡ open_added d c s at net
+  open_none c at h l = added_none (net *ℤ pos (multiplier d s)) at (moves_from d c s) (tabulate point_count (moves_to d c s net)) (no_contracts h) l
 
   pub exercised-none : (c : ℕ) (at : List ℤ) → nat_abs net ≤ 0 → length at ≡ point_count → at ≡ exercised_added d c s at net
   exercised-none c at h l =
@@ -66,17 +81,18 @@ module _ (d : List ℕ) (n : ℕ → ℤ) (k c s : ℕ) (at : List ℤ) where
   abbrev x : ℤ
   x = exercised_net n k s *ℤ pos (multiplier d s)
 
-  pub both_added : exercised_added d c s (open_added d s at (counted_net d n k c s)) (exercised_net n k s)
+  pub both_added : exercised_added d c s (open_added d c s at (counted_net d n k c s)) (exercised_net n k s)
       ≡ tabulate point_count (λ j. get_or at j (pos 0) +ℤ point_of d n k c j s)
   both_added =
       tabulate_ext point_count _ (λ j. get_or at j (pos 0) +ℤ point_of d n k c j s)
       (λ j h.
       (λ i.
-      (get_or-tabulate point_count (added_at at z (closing d s) (tabulate point_count (open_price d s (counted_net d n k c s)))) j (pos 0) h
-      ∙ ap (λ (p : ℕ). get_or at j (pos 0) +ℤ change_amount z (closing d s) p) (get_or-tabulate point_count (open_price d s (counted_net d n k c s)) j 0 h)) i
+      (get_or-tabulate point_count (added_at at z (moves_from d c s) (tabulate point_count (moves_to d c s (counted_net d n k c s)))) j (pos 0) h
+      ∙ ap (λ (p : ℕ). get_or at j (pos 0) +ℤ change_amount z (moves_from d c s) p) (get_or-tabulate point_count (moves_to d c s (counted_net d n k c s)) j 0 h)
+      ∙ ap (λ (y : ℤ). get_or at j (pos 0) +ℤ z *ℤ y) (moves_by d c s (counted_net d n k c s) j)) i
       +ℤ (ap (change_amount (signed_by_type (series_type d s) x) (underlying d c)) (get_or-tabulate point_count (projected d c) j 0 h)
       ∙ by_type_mul (series_type d s) x (pos (projected d c j) -ℤ pos (underlying d c))) i)
-      ∙ +ℤ_assoc (get_or at j (pos 0)) (worth d s (counted_net d n k c s) (open_change d s (counted_net d n k c s) j)) (worth d s (exercised_net n k s) (exercised_change d c s j)))
+      ∙ +ℤ_assoc (get_or at j (pos 0)) (worth d s (counted_net d n k c s) (open_change d c s (counted_net d n k c s) j)) (worth d s (exercised_net n k s) (exercised_change d c s j)))
 
 -- ---- the net that counts
 
@@ -125,17 +141,24 @@ points-size d nets w k c m hk hc hm j h =
 -- ---- prices are within their limit
 
 module _ (d : List ℕ) (r : DayRows d) where
-  pub open_prices_limit : (s : ℕ) → s < series_count d → (z : ℤ) (j : ℕ) → j < point_count → get_or (tabulate point_count (open_price d s z)) j 0 ≤ price_limit
-  open_prices_limit s h z j l =
-      rw (get_or-tabulate point_count (open_price d s z) j 0 l) (open_price_limit d s j r h l z)
+  pub moves-from_limit : (c s : ℕ) → c < class_count d → s < series_count d → moves_from d c s ≤ price_limit
+  moves-from_limit c s hc hs =
+      cond_ind (is_expired (series_type d s)) (underlying d c) (closing d s) (λ p. p ≤ price_limit) (λ t. underlying_limit d r c hc) (λ t. closing_limit d r s hs)
+
+  pub moves-to_limit : (c s : ℕ) → c < class_count d → s < series_count d → (z : ℤ) (j : ℕ) → j < point_count
+      → get_or (tabulate point_count (moves_to d c s z)) j 0 ≤ price_limit
+  moves-to_limit c s hc hs z j l =
+      rw (get_or-tabulate point_count (moves_to d c s z) j 0 l)
+      (cond_ind (is_expired (series_type d s)) (projected d c j) (open_price d s z j) (λ p. p ≤ price_limit)
+      (λ t. projected_limit d r c hc j l) (λ t. open_price_limit d s j r hs l z))
 
   pub projected_prices_limit : (c : ℕ) → c < class_count d → (j : ℕ) → j < point_count → get_or (tabulate point_count (projected d c)) j 0 ≤ price_limit
   projected_prices_limit c h j l =
       rw (get_or-tabulate point_count (projected d c) j 0 l) (projected_limit d r c h j l)
 
   -- the amounts after the open position
-  pub opened-size : (s : ℕ) (at : List ℤ) (net : ℤ) → s < series_count d → nat_abs net * multiplier d s ≤ contracts_limit
+  pub opened-size : (c s : ℕ) (at : List ℤ) (net : ℤ) → c < class_count d → s < series_count d → nat_abs net * multiplier d s ≤ contracts_limit
       → ((j : ℕ) → j < point_count → nat_abs (get_or at j (pos 0)) ≤ worth_limit)
-      → (j : ℕ) → j < point_count → nat_abs (get_or (open_added d s at net) j (pos 0)) ≤ running_limit
-  opened-size s at net h q a =
-      added-size at (net *ℤ pos (multiplier d s)) (closing d s) (tabulate point_count (open_price d s net)) (contracts_small d s net q) (closing_limit d r s h) (open_prices_limit s h net) a
+      → (j : ℕ) → j < point_count → nat_abs (get_or (open_added d c s at net) j (pos 0)) ≤ running_limit
+  opened-size c s at net hc hs q a =
+      added-size at (net *ℤ pos (multiplier d s)) (moves_from d c s) (tabulate point_count (moves_to d c s net)) (contracts_small d s net q) (moves-from_limit c s hc hs) (moves-to_limit c s hc hs net) a

@@ -1,16 +1,15 @@
 // The two positions of a series: open, and exercised or assigned.
 ghost use Rattle.std.specs.Prelude.{◌≡◌, cond, ℕ, ◌*◌, ◌≤◌, ◌<◌, pos, nat_abs, ◌+ℤ◌, ◌*ℤ◌, get_or};
 ghost use Rattle.numbers.specs.Table.{tabulate};
-ghost use Rattle.model.specs.DayFile.{series_type, is_future, multiplier, closing, underlying, projected};
+ghost use Rattle.model.specs.DayFile.{series_type, is_future, multiplier, underlying, projected};
 ghost use Rattle.model.specs.Steps.Classes.{signed_by_type};
 ghost use Rattle.model.specs.Steps.Spread.{spread_quantity, short_before, long_before};
 ghost use Rattle.model.specs.Steps.Positions.{exercised_net};
-ghost use Rattle.model.specs.Steps.Prices.{open_price};
 ghost use Rattle.model.specs.Steps.Points.{point_of};
 ghost use Rattle.model.specs.Limits.{contracts_limit, running_limit, worth_limit, point_count};
 ghost use Rattle.holdings.specs.Seen.{series_day, series_net, series_book};
 ghost use Rattle.spread.specs.Sides.{non_spread_of};
-ghost use Rattle.points.specs.Series.{open_added, exercised_added};
+ghost use Rattle.points.specs.Series.{moves_from, moves_to, open_added, exercised_added};
 
 use accumulator::{Points, Position};
 use holdings::SeriesHoldings;
@@ -18,15 +17,30 @@ use positions::Holding;
 use spread::sides::Sides;
 use worth::SeriesNet;
 
-// An open position moves from the closing price to its prices at the points.
+// So many contracts that move with the underlying price, from it to the projected ones.
+fn underlying_position(held: &SeriesHoldings, contracts: i64) -> Position
+    ensures { (result.contracts ≡ contracts) × (result.base ≡ underlying (series_day held.now) held.now.class.now.class) × (result.prices ≡ tabulate point_count (projected (series_day held.now) held.now.class.now.class)) }
+{
+    let class = held.class.class();
+    Position {
+        contracts,
+        base: class.underlying(),
+        prices: prices::projected_prices(&class),
+    }
+}
+
+// An open position moves from the closing price to its prices at the points, one of an expired future with the underlying price.
 fn open_position(held: &SeriesHoldings, net: i64) -> Position
     requires { nat_abs net * multiplier (series_day held.now) held.now.place ≤ contracts_limit }
-    ensures { (result.contracts ≡ net *ℤ pos (multiplier (series_day held.now) held.now.place)) × (result.base ≡ closing (series_day held.now) held.now.place) × (result.prices ≡ tabulate point_count (open_price (series_day held.now) held.now.place net)) }
+    ensures { (result.contracts ≡ net *ℤ pos (multiplier (series_day held.now) held.now.place)) × (result.base ≡ moves_from (series_day held.now) held.now.class.now.class held.now.place) × (result.prices ≡ tabulate point_count (moves_to (series_day held.now) held.now.class.now.class held.now.place net)) }
 {
     let of = SeriesNet {
         series: held.series(),
         net,
     };
+    if of.series.is_expired() {
+        return underlying_position(held, of.contracts());
+    }
     Position {
         contracts: of.contracts(),
         base: of.series.closing(),
@@ -34,20 +48,16 @@ fn open_position(held: &SeriesHoldings, net: i64) -> Position
     }
 }
 
-// An exercised or assigned one moves from the underlying price to the projected ones, a put the other way.
+// An exercised or assigned one moves with the underlying price, a put the other way.
 fn exercised_position(held: &SeriesHoldings) -> Position
     ensures { (result.contracts ≡ signed_by_type (series_type (series_day held.now) held.now.place) ((exercised_net (series_net held.now) (series_book held.now) held.now.place) *ℤ pos (multiplier (series_day held.now) held.now.place))) × (result.base ≡ underlying (series_day held.now) held.now.class.now.class) × (result.prices ≡ tabulate point_count (projected (series_day held.now) held.now.class.now.class)) }
 {
     let of = held.position(Holding::Exercised);
-    let class = held.class.class();
-    Position {
-        contracts: worth::signed_by_type(of.series.type_number(), of.contracts()),
-        base: class.underlying(),
-        prices: prices::projected_prices(&class),
-    }
+    let contracts = worth::signed_by_type(of.series.type_number(), of.contracts());
+    underlying_position(held, contracts)
 }
 
-// The open net that counts: futures with only their non-spread net.
+// The open net that counts: open futures with only their non-spread net.
 fn counted_net(held: &SeriesHoldings, net: i64, quantity: i64, before: Sides) -> i64
     requires { (nat_abs quantity ≤ contracts_limit) × (nat_abs before.short ≤ contracts_limit) × (nat_abs before.long ≤ contracts_limit) × (nat_abs net ≤ contracts_limit) }
     ensures { result ≡ cond (is_future (series_type (series_day held.now) held.now.place)) (non_spread_of quantity before.short before.long net) net }
@@ -62,7 +72,7 @@ fn counted_net(held: &SeriesHoldings, net: i64, quantity: i64, before: Sides) ->
 fn add_open(points: Points, held: &SeriesHoldings, net: i64) -> Points
     requires limit { nat_abs net * multiplier (series_day held.now) held.now.place ≤ contracts_limit }
     requires by_index { (k : ℕ) → k < point_count → nat_abs (get_or points.at k (pos 0)) ≤ running_limit }
-    ensures { result.at ≡ open_added (series_day held.now) held.now.place points.at net }
+    ensures { result.at ≡ open_added (series_day held.now) held.now.class.now.class held.now.place points.at net }
 {
     if net == 0 {
         return points;

@@ -2,7 +2,7 @@
 use Rattle.std.specs.Prelude.{◌≡◌, Bool, cond, List, ℕ, ◌+◌, ◌≤◌, ◌<◌, ◌^◌, ℤ, pos, nat_abs, ◌+ℤ◌, ◌-ℤ◌}
 use Rattle.std.proofs.Common.{sym, ◌∙◌, arith}
 use Rattle.std.proofs.Math.Path.{ap}
-use Rattle.numbers.specs.Abs.{nat_abs-+, nat_abs-pos-sub}
+use Rattle.numbers.specs.Abs.{nat_abs-+}
 use Rattle.numbers.specs.Sums.{sum_where}
 use Rattle.model.specs.Limits.{worth_limit, price_limit, most_records}
 use Rattle.model.specs.DayFile.{class_count, series_count, series_type, closing, underlying, strike, is_option}
@@ -11,8 +11,8 @@ use Rattle.model.specs.Steps.Positions.{open_net, exercised_net}
 use Rattle.model.specs.Steps.Classes.{option_of, worth}
 use Rattle.model.specs.Steps.Premium.{in_the_money, premium_of, premium}
 use Rattle.model.proofs.Accepted.{DayRows}
-use Rattle.model.proofs.Limits.{underlying_limit, strike_limit, closing_limit}
-use Rattle.model.proofs.Bounds.{worth_bound, by_type_abs}
+use Rattle.model.proofs.Limits.{closing_limit}
+use Rattle.model.proofs.Bounds.{worth_bound, strike_size, by_type_abs}
 use Rattle.classes.specs.Tables.{entry, Given}
 use Rattle.classes.specs.Range.{Range, start, turn, finish}
 use Rattle.classes.specs.Sizes.{contracts_size}
@@ -39,8 +39,7 @@ module _ (d : List ℕ) (n : ℕ → ℤ) (k c a b : ℕ) (r : Range d c a b) wh
 pub money_size : (d : List ℕ) → DayRows d → (c s : ℕ) → c < class_count d → s < series_count d
     → (nat_abs (pos (underlying d c) -ℤ pos (strike d s)) ≤ price_limit) × (nat_abs (in_the_money d c s) ≤ price_limit)
 money_size d r c s hc hs =
-    let h = nat_abs-pos-sub (underlying d c) (strike d s) price_limit (underlying_limit d r c hc)
-    (strike_limit d r s hs) in
+    let h = strike_size d r c s hc hs in
     (h, omega (arith, h, by_type_abs (series_type d s) (pos (underlying d c) -ℤ pos (strike d s))))
 
 module _ (d : List ℕ) (nets : List ℤ) (w : Given d nets) (k s : ℕ) (hk : k < 2) (hs : s < series_count d) where

@@ -13,10 +13,7 @@ use positions::Holding;
 fn in_the_money(held: &SeriesHoldings) -> i64
     ensures { result ≡ in_the_money (series_day held.now) held.now.class.now.class held.now.place }
 {
-    let series = held.series();
-    let underlying = i64::from(held.class.class().underlying());
-    let strike = i64::from(series.strike());
-    worth::signed_by_type(series.type_number(), underlying - strike)
+    worth::signed_by_type(held.series().type_number(), held.above_strike())
 }
 
 // Of a series, if it is an option: the open position at its closing price, the exercised or assigned one at its in-the-money amount.

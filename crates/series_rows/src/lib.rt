@@ -47,7 +47,7 @@ pub fn out_of_order(series: &Series) -> bool
     (series.key(), series.strike()) <= (before.key(), before.strike())
 }
 
-// Row 17 of a series: no type of 1–6; serial not 0 on types 1–3; strike not 0 on a future; strike or expiry not 0 on a security;
+// Row 17 of a series: no type of 1–6 and 8; serial not 0 on types 1–3 and 8; strike not 0 on an open future; strike or expiry not 0 on a security;
 // adjustment not 0 on a series that is no option.
 #[tactic(auto, unfolding(model::specs::DayChecks::row17))]
 pub fn bad_type(series: &Series) -> bool
@@ -57,6 +57,7 @@ pub fn bad_type(series: &Series) -> bool
         Ok(SeriesType::Future) => {
             series.serial() != 0 || series.strike() != 0 || series.adjustment() != 0
         }
+        Ok(SeriesType::ExpiredFuture) => series.serial() != 0 || series.adjustment() != 0,
         Ok(SeriesType::Call | SeriesType::Put) => series.serial() != 0,
         Ok(SeriesType::Equity | SeriesType::Warrant | SeriesType::Rights) => {
             series.strike() != 0 || series.expiry() != 0 || series.adjustment() != 0

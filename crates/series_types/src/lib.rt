@@ -2,7 +2,7 @@
 #![tactic(auto)]
 
 ghost use Rattle.std.specs.Prelude.{◌≡◌};
-ghost use Rattle.model.specs.DayFile.{is_future, is_call, is_put, is_option, is_equity, is_warrant, is_rights, is_security, is_derivative};
+ghost use Rattle.model.specs.DayFile.{is_future, is_expired, is_call, is_put, is_option, is_equity, is_warrant, is_rights, is_security, is_derivative};
 ghost use Rattle.model.specs.Steps.Cover.{is_coverable};
 ghost use Rattle.series_types.specs.Types.{type_number, read_type};
 
@@ -14,6 +14,7 @@ pub enum SeriesType {
     Equity = 4,
     Warrant = 5,
     Rights = 6,
+    ExpiredFuture = 8,
 }
 
 // A number that no type has.
@@ -35,14 +36,15 @@ impl TryFrom<u32> for SeriesType {
             4 => Ok(SeriesType::Equity),
             5 => Ok(SeriesType::Warrant),
             6 => Ok(SeriesType::Rights),
+            8 => Ok(SeriesType::ExpiredFuture),
             _ => Err(UnknownType { number }),
         }
     }
 }
 
 impl SeriesType {
-    // In the order of their numbers.
-    pub const ALL: [SeriesType; 6] = [
+    // The types that have a minimum, in the order of their numbers.
+    pub const WITH_MINIMUM: [SeriesType; 6] = [
         SeriesType::Future,
         SeriesType::Call,
         SeriesType::Put,
@@ -74,18 +76,18 @@ impl SeriesType {
         )
     }
 
-    // A future or an option.
+    // An open or an expired future, or an option.
     pub fn is_derivative(self) -> bool
         ensures { result ≡ is_derivative (type_number self) }
     {
-        matches!(self, SeriesType::Future) | self.is_option()
+        self.is_coverable() | self.is_option()
     }
 
-    // A type that deposits cover: a future.
+    // A type that deposits cover: an open or an expired future.
     pub fn is_coverable(self) -> bool
         ensures { result ≡ is_coverable (type_number self) }
     {
-        matches!(self, SeriesType::Future)
+        matches!(self, SeriesType::Future | SeriesType::ExpiredFuture)
     }
 }
 
@@ -140,7 +142,14 @@ pub fn is_security(number: u32) -> bool
     SeriesType::try_from(number).is_ok_and(|t| t.is_security())
 }
 
-// A future or an option.
+// Type 8.
+pub fn is_expired(number: u32) -> bool
+    ensures { result ≡ is_expired number }
+{
+    SeriesType::try_from(number).is_ok_and(|t| t == SeriesType::ExpiredFuture)
+}
+
+// An open or an expired future, or an option.
 pub fn is_derivative(number: u32) -> bool
     ensures { result ≡ is_derivative number }
 {

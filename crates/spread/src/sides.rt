@@ -35,7 +35,7 @@ impl Sides {
         Sides { short: 0, long: 0 }
     }
 
-    // The sides with those of a series added, if it is a future.
+    // The sides with those of a series added, if it is an open future.
     pub fn add(self, held: &SeriesHoldings) -> Self
         requires { (nat_abs self.short ≤ contracts_limit) × (nat_abs self.long ≤ contracts_limit) }
         ensures { (result.short ≡ self.short +ℤ future_short (series_day held.now) (series_net held.now) (series_book held.now) held.now.place) × (result.long ≡ self.long +ℤ future_long (series_day held.now) (series_net held.now) (series_book held.now) held.now.place) }

@@ -1,4 +1,4 @@
-use Rattle.std.proofs.Common.{⊎_elim}
+use Rattle.std.proofs.Common.{refl, ⊎_elim}
 use Rattle.model.specs.Steps.Minimum.{minimum_rate}
 use Rattle.minimum.proofs.minimum_rate.Goals as goal
 
@@ -21,3 +21,7 @@ returns-in-Warrant c = rw c.in-Warrant.is c.warrant_rate.ensures
 pub returns-in-Rights : goal.returns-in-Rights
 unfolding minimum_rate
 returns-in-Rights c = rw c.in-Rights.is c.rights_rate.ensures
+
+pub returns-in-ExpiredFuture : goal.returns-in-ExpiredFuture
+unfolding minimum_rate
+returns-in-ExpiredFuture c = rw c.in-ExpiredFuture.is refl

@@ -1,7 +1,7 @@
 -- What the steps sum over: the series of a class, by type, and the classes of a group; and what they sum: net × multiplier × price.
 use Rattle.std.specs.Prelude.{Bool, ◌&&◌, cond, List, ℕ, eqb, ℤ, pos, neg_ℤ, ◌*ℤ◌}
 use Rattle.numbers.specs.Sums.{sum_where}
-use Rattle.model.specs.DayFile.{class_count, group, series_type, series_class, multiplier, is_future, is_call, is_put, is_option, is_security}
+use Rattle.model.specs.DayFile.{class_count, group, series_type, series_class, multiplier, is_future, is_call, is_put, is_option, is_marked}
 
 -- series s is of class c
 abbrev pub of_class : List ℕ → ℕ → ℕ → Bool
@@ -11,7 +11,7 @@ of_class d c s = eqb (series_class d s) c
 abbrev pub type_of : List ℕ → ℕ → ℕ → ℕ → Bool
 type_of d c t s = of_class d c s && eqb (series_type d s) t
 
--- .. and a future
+-- .. and an open future
 abbrev pub future_of : List ℕ → ℕ → ℕ → Bool
 future_of d c s = of_class d c s && is_future (series_type d s)
 
@@ -19,9 +19,9 @@ future_of d c s = of_class d c s && is_future (series_type d s)
 abbrev pub option_of : List ℕ → ℕ → ℕ → Bool
 option_of d c s = of_class d c s && is_option (series_type d s)
 
--- .. and a security
-abbrev pub security_of : List ℕ → ℕ → ℕ → Bool
-security_of d c s = of_class d c s && is_security (series_type d s)
+-- .. and marked to market
+abbrev pub marked_of : List ℕ → ℕ → ℕ → Bool
+marked_of d c s = of_class d c s && is_marked (series_type d s)
 
 -- the sum of an amount over the classes of group g
 unfoldable pub over_classes : List ℕ → ℕ → (ℕ → ℤ) → ℤ

@@ -2,7 +2,7 @@
 use Rattle.std.specs.Prelude.{cond, List, ℕ, ◌+◌, ℤ, pos, ◌*ℤ◌}
 use Rattle.numbers.specs.Sums.{sum_to, sum_where}
 use Rattle.numbers.specs.Extremes.{max_z, abs_z}
-use Rattle.model.specs.DayFile.{option_rate, future_rate, equity_rate, warrant_rate, rights_rate, series_count, is_future, is_option, is_equity, is_warrant}
+use Rattle.model.specs.DayFile.{option_rate, future_rate, equity_rate, warrant_rate, rights_rate, series_count, is_future, is_option, is_equity, is_warrant, is_rights}
 use Rattle.model.specs.Steps.Positions.{open_net}
 use Rattle.model.specs.Steps.Classes.{type_of, over_classes}
 use Rattle.model.specs.Steps.Additional.{additional}
@@ -11,11 +11,12 @@ use Rattle.model.specs.Steps.Additional.{additional}
 abbrev pub minimum_types : ℕ
 minimum_types = 6
 
--- the rate of a type
+-- the rate of a type, 0 for another
 unfoldable pub minimum_rate : List ℕ → ℕ → ℕ → ℕ
 minimum_rate d c t =
     cond (is_future t) (future_rate d c)
-    (cond (is_option t) (option_rate d c) (cond (is_equity t) (equity_rate d c) (cond (is_warrant t) (warrant_rate d c) (rights_rate d c))))
+    (cond (is_option t) (option_rate d c)
+    (cond (is_equity t) (equity_rate d c) (cond (is_warrant t) (warrant_rate d c) (cond (is_rights t) (rights_rate d c) 0))))
 
 module _ (d : List ℕ) (net : ℕ → ℤ) (book : ℕ) where
   -- the open nets of a class summed within a type

@@ -1,4 +1,4 @@
--- Step 5: the price that an open position has at a point, with the short option adjustment (U3).
+-- Step 5: the price that an open position has at a point, with the short option adjustment (U3). An expired future has the underlying price (Points).
 use Rattle.std.specs.Prelude.{Bool, ◌&&◌, cond, List, ℕ, max, eqb, ℤ, pos}
 use Rattle.std.specs.Int.Signed.{lt_z}
 use Rattle.model.specs.DayFile.{series_type, adjustment, theoretical, is_call, is_put}

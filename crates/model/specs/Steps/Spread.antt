@@ -31,7 +31,7 @@ module _ (d : List ℕ) (net : ℕ → ℤ) (book : ℕ) where
   abbrev pub spread_quantity : ℕ → ℤ
   spread_quantity c = min_z (total_long c) (total_short c)
 
-  -- a future of the class with a non-zero net; the day file has a class's futures by expiry (row 16), so the first is the earliest (proofs/Expiry)
+  -- an open future of the class with a non-zero net; the day file has a class's open futures by expiry (row 16), so the first is the earliest (proofs/Expiry)
   unfoldable pub held_future : ℕ → ℕ → Bool
   held_future c s = future_of d c s && not_zero (open_net net book s)
 

@@ -1,6 +1,6 @@
 use Rattle.holdings.specs.Seen.{class_day, class_net, class_book}
 use Rattle.holdings.specs.Facts.{class_given, book_below}
-use Rattle.std.proofs.Common.{rules, ◌≡◌, ◌*◌, ◌≤◌, ◌∙◌, nat_abs, w64, to_z, ap, sym, arith, le_of_eq}
+use Rattle.std.proofs.Common.{rules, ◌*◌, ◌≤◌, ◌∙◌, nat_abs, w64, to_z, ap, sym, arith, le_of_eq}
 use Rattle.classes.specs.Sizes.{contracts_size}
 use Rattle.model.specs.DayFile.{series_type, multiplier}
 use Rattle.model.specs.Limits.{contracts_limit}

@@ -36,8 +36,8 @@ counts c =
     ∙ counted (series_day h) (series_net h) (series_book h) h.class.now.class h.place)
 
 -- and what the open position makes of the ten amounts
-opens : (c : After-add_open-next) → i64_of c.counted_net.result ≡ counted_of c.args.held.now → c.add_open-next.result.at ≡ open_added (series_day c.args.held.now) c.args.held.now.place c.args.points.at (counted_of c.args.held.now)
-opens c e = c.add_open-next.ensures ∙ ap (open_added (series_day c.args.held.now) c.args.held.now.place c.args.points.at) e
+opens : (c : After-add_open-next) → i64_of c.counted_net.result ≡ counted_of c.args.held.now → c.add_open-next.result.at ≡ open_added (series_day c.args.held.now) c.args.held.now.class.now.class c.args.held.now.place c.args.points.at (counted_of c.args.held.now)
+opens c e = c.add_open-next.ensures ∙ ap (open_added (series_day c.args.held.now) c.args.held.now.class.now.class c.args.held.now.place c.args.points.at) e
 
 pub counted_net-requires : goal.counted_net-requires
 counted_net-requires c =
@@ -61,7 +61,7 @@ add_exercised-requires c =
     let h = c.args.held.now in
     let s = goal.at.add_exercised-requires c in
     rw (opens s.After-add_open-next (counts s.After-counted_net))
-    (opened-size (series_day h) (class_given h.class.now).day.rows h.place c.args.points.at (counted_of h) h.inside (small h) c.requires.by_index)
+    (opened-size (series_day h) (class_given h.class.now).day.rows h.class.now.class h.place c.args.points.at (counted_of h) h.class.now.inside h.inside (small h) c.requires.by_index)
 
 pub returns : goal.returns
 returns c =

@@ -1,4 +1,4 @@
-use Rattle.std.proofs.Common.{◌≡◌, ◌≤◌, refl, arith, ◌∙◌, ap, ◌*ℤ◌, pos, nat_abs, to_z-of_z}
+use Rattle.std.proofs.Common.{◌≡◌, ◌≤◌, refl, arith, ◌*ℤ◌, pos, nat_abs}
 use Rattle.model.specs.DayFile.{multiplier}
 use Rattle.model.specs.Limits.{contracts_limit, price_limit}
 use Rattle.numbers.specs.Abs.{nat_abs-*}
