@@ -79,10 +79,10 @@ impl Day<'_> {
         (c < self.classes && self.number(c) == number).then_some(c)
     }
 
-    /// The futures of the class with this number, which stand in order of expiry.
+    /// The futures of the class with this number: the open ones, then the expired ones.
     fn futures<'a>(&'a self, starts: &Starts, number: u32) -> impl Iterator<Item = usize> + 'a {
         let series = self.class_of(number).map_or(0..0, |c| starts[c]..starts[c + 1]);
-        series.filter(|&s| self.series_type(s) == 1)
+        series.filter(|&s| matches!(self.series_type(s), 1 | 8))
     }
 
     #[inline]
@@ -141,6 +141,7 @@ impl Day<'_> {
                 1 => key & 127 != 0 || strike != 0 || self.one(s, 4) != 0,
                 2 | 3 => key & 127 != 0,
                 4..=6 => strike != 0 || key >> 7 & 4095 != 0 || self.one(s, 4) != 0,
+                8 => key & 127 != 0 || self.one(s, 4) != 0,
                 _ => true,
             };
             if wrong {
@@ -281,12 +282,12 @@ fn cover(day: &Day, starts: &Starts, deposits: &[u32], nets: &mut [i64; NETS]) {
     if deposits.is_empty() {
         return;
     }
-    // net and place of each; a further expiry stands behind a nearer one
-    let mut shorts = [(0, 0); 256];
+    // net, expiry and 255 less the place of each in one number; an expired future stands behind the open ones
+    let mut shorts = [0; 256];
     for d in deposits.chunks_exact(2) {
         let mut count = 0;
         for s in day.futures(starts, d[0]).filter(|&s| nets[s] > 0) {
-            shorts[count] = (nets[s], s);
+            shorts[count] = nets[s] << 20 | i64::from(day.one(s, 0) >> 7 & 4095) << 8 | (255 - s as i64);
             count += 1;
         }
         if count == 0 {
@@ -294,10 +295,11 @@ fn cover(day: &Day, starts: &Starts, deposits: &[u32], nets: &mut [i64; NETS]) {
         }
         let shorts = &mut shorts[..count];
         shorts.sort_unstable();
-        let mut left = i64::from(d[1] / day.one(shorts[0].1, 1));
-        for &(net, s) in shorts.iter().rev() {
-            let taken = net.min(left);
-            nets[s] -= taken;
+        let place = |short: i64| 255 - (short & 255) as usize;
+        let mut left = i64::from(d[1] / day.one(place(shorts[0]), 1));
+        for &short in shorts.iter().rev() {
+            let taken = left.min(short >> 20);
+            nets[place(short)] -= taken;
             left -= taken;
         }
     }
@@ -328,12 +330,12 @@ fn class_sums(day: &Day, nets: &[i64; NETS], dvps: &[i64; NETS], book: usize, c:
     let spot = spot.min(quantity);
     let mut sums = Sums { spread: spot * price(2) + (2 * quantity - spot) * price(3), ..Sums::default() };
     let (mut short_left, mut long_left) = (quantity, quantity);
-    let mut types = [0i64; 7];
+    let mut types = [0i64; 9];
     let mut points = [0i64; 10];
     for s in range {
         let t = day.series_type(s);
         let n = net(s);
-        let done = nets[s + 256 + 512 * book];
+        let mut done = nets[s + 256 + 512 * book];
         let m = i64::from(day.one(s, 1));
         let closing = i64::from(day.one(s, 3));
         types[t as usize] += n;
@@ -344,8 +346,12 @@ fn class_sums(day: &Day, nets: &[i64; NETS], dvps: &[i64; NETS], book: usize, c:
             *left -= taken;
             counted = n - taken * n.signum();
         }
-        let sign = if t == 2 { 1 } else { -1 };
-        if t >= 4 {
+        let mut sign = if t == 2 { 1 } else { -1 };
+        if t == 8 {
+            sums.mtm += n * m * (price(1) - i64::from(day.one(s, 2)));
+            // moves with the underlying price, as an exercised call does
+            (counted, done, sign) = (0, n, 1);
+        } else if t >= 4 {
             sums.mtm += n * m * closing - dvps[s + 512 * book];
         } else if t >= 2 {
             sums.premium += n * m * closing + done * m * sign * (price(1) - i64::from(day.one(s, 2)));

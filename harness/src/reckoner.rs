@@ -76,11 +76,23 @@ pub struct Deposit {
     pub shares: i128,
 }
 
-fn is_option(t: u32) -> bool {
+fn is_open_future(t: u32) -> bool {
+    t == 1
+}
+
+pub(crate) fn is_expired_future(t: u32) -> bool {
+    t == 8
+}
+
+pub fn is_future(t: u32) -> bool {
+    is_open_future(t) || is_expired_future(t)
+}
+
+pub fn is_option(t: u32) -> bool {
     t == 2 || t == 3
 }
 
-fn is_security(t: u32) -> bool {
+pub fn is_security(t: u32) -> bool {
     (4..=6).contains(&t)
 }
 
@@ -203,7 +215,7 @@ pub fn read_day(day: &[u32]) -> Result<DayFile, Refusal> {
     for (i, one) in series.iter().enumerate() {
         let bad = match one.series_type {
             1 => one.serial != 0 || one.strike != 0,
-            2 | 3 => one.serial != 0,
+            2 | 3 | 8 => one.serial != 0,
             4..=6 => one.strike != 0 || one.expiry != 0,
             _ => true,
         };
@@ -215,12 +227,10 @@ pub fn read_day(day: &[u32]) -> Result<DayFile, Refusal> {
 }
 
 impl DayFile {
-    /// The places of a class's futures, in order of expiry.
-    fn futures(&self, class_number: u32) -> Vec<usize> {
-        let is_own = |s: &usize| self.series[*s].class_number == class_number && self.series[*s].series_type == 1;
-        let mut own: Vec<usize> = (0..self.series.len()).filter(is_own).collect();
-        own.sort_by_key(|&s| self.series[s].expiry);
-        own
+    /// The places of a class's series of some types.
+    fn series_of(&self, class_number: u32, of_type: impl Fn(u32) -> bool) -> Vec<usize> {
+        let is_own = |s: &usize| self.series[*s].class_number == class_number && of_type(self.series[*s].series_type);
+        (0..self.series.len()).filter(is_own).collect()
     }
 }
 
@@ -354,22 +364,27 @@ pub fn read_deposits(day: &DayFile, words: &[u32]) -> Result<Vec<Deposit>, Refus
         deposits.push(Deposit { class_number: w[0], shares: w[1] as i128 });
     }
     let multiplier = |s: usize| day.series[s].multiplier;
-    let unlike = |d: &Deposit| day.futures(d.class_number).windows(2).any(|w| multiplier(w[0]) != multiplier(w[1]));
+    let futures = |d: &Deposit| day.series_of(d.class_number, is_future);
+    let unlike = |d: &Deposit| futures(d).windows(2).any(|w| multiplier(w[0]) != multiplier(w[1]));
     match deposits.iter().position(unlike) {
         Some(i) => refuse(51, i),
         None => Ok(deposits),
     }
 }
 
-/// The positions with each deposit's contracts taken from its class's net short futures in the ordinary book: from the largest net on,
-/// among equals from the further expiry, each used up before the next.
+/// The positions with each deposit's contracts taken from its class's net short futures, open and expired, in the ordinary book: from the
+/// largest net on, among equals from the further expiry, of the same expiry from the open one, then from the lower place; each used up before
+/// the next.
 fn covered(day: &DayFile, positions: &BTreeMap<Key, Position>, deposits: &[Deposit]) -> BTreeMap<Key, Position> {
     let mut out = positions.clone();
     for deposit in deposits {
-        let futures = day.futures(deposit.class_number);
+        let futures = day.series_of(deposit.class_number, is_future);
         let net_of = |s: usize| positions.get(&(s, false, false)).map_or(0, |p| p.net);
         let mut shorts: Vec<usize> = futures.into_iter().filter(|&s| net_of(s) > 0).collect();
-        shorts.sort_by_key(|&s| Reverse((net_of(s), day.series[s].expiry)));
+        shorts.sort_by_key(|&s| {
+            let one = &day.series[s];
+            (Reverse(net_of(s)), Reverse(one.expiry), is_expired_future(one.series_type), s)
+        });
         let mut shares = deposit.shares;
         for s in shorts {
             let multiplier = day.series[s].multiplier;
@@ -406,7 +421,15 @@ fn open_prices(one: &Series, net: i128) -> [i128; 10] {
     prices
 }
 
-/// The spread margin of a class's futures, given in order of expiry, and what is left of each net.
+/// How far the price of an open position moves at the ten points: that of an expired future as the underlying price does.
+fn moves(class: &Class, one: &Series, net: i128) -> [i128; 10] {
+    if is_expired_future(one.series_type) {
+        return class.projected.map(|price| price - class.underlying);
+    }
+    open_prices(one, net).map(|price| price - one.closing)
+}
+
+/// The spread margin of a class's open futures, given in order of expiry, and what is left of each net.
 fn spread(nets: &[i128], class: &Class) -> (i128, Vec<i128>) {
     let short: i128 = nets.iter().filter(|n| **n > 0).sum();
     let long: i128 = -nets.iter().filter(|n| **n < 0).sum::<i128>();
@@ -431,8 +454,9 @@ fn line(day: &DayFile, positions: &BTreeMap<Key, Position>, fail: bool, group: u
     let (mut spreads, mut mtm, mut premium, mut minimum) = (0, 0, 0, 0);
     let mut points = [0i128; 10];
     for class in day.classes.iter().filter(|c| c.group == group) {
-        let own: Vec<usize> = (0..day.series.len()).filter(|&s| day.series[s].class_number == class.number).collect();
-        let futures = day.futures(class.number);
+        let own = day.series_of(class.number, |_| true);
+        let mut futures = day.series_of(class.number, is_open_future);
+        futures.sort_by_key(|&s| day.series[s].expiry);
         let nets: Vec<i128> = futures.iter().map(|&s| at(s, false).net).collect();
         let (margin, rest) = spread(&nets, class);
         spreads += margin;
@@ -446,14 +470,17 @@ fn line(day: &DayFile, positions: &BTreeMap<Key, Position>, fail: bool, group: u
             if is_security(one.series_type) {
                 mtm += open.net * one.multiplier * one.closing - open.dvp;
             }
+            if is_expired_future(one.series_type) {
+                mtm += open.net * one.multiplier * (class.underlying - one.strike);
+            }
             if is_option(one.series_type) {
                 premium += open.net * one.multiplier * one.closing;
                 premium += done.net * one.multiplier * sign * (class.underlying - one.strike);
             }
             let counted = left.get(&s).copied().unwrap_or(open.net);
-            let prices = open_prices(one, counted);
+            let moves = moves(class, one, counted);
             for (k, point) in class_points.iter_mut().enumerate() {
-                *point += counted * one.multiplier * (prices[k] - one.closing);
+                *point += counted * one.multiplier * moves[k];
                 if is_option(one.series_type) {
                     *point += done.net * one.multiplier * sign * (class.projected[k] - class.underlying);
                 }

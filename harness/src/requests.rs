@@ -73,7 +73,7 @@ pub fn cases(request: &str, count: usize) -> Vec<Case> {
 }
 
 /// The requests that have cases of the call over words, and how many.
-pub const REPORTS: [(&str, usize); 5] = [("U03", 67), ("U04", 58), ("U05", 81), ("U06", 69), ("U08", 71)];
+pub const REPORTS: [(&str, usize); 6] = [("U03", 67), ("U04", 58), ("U05", 81), ("U06", 69), ("U08", 71), ("U09", 96)];
 
 /// The cases of one of them; those from before U5 have no deposits.
 pub fn report_cases(request: &str, count: usize) -> Vec<Case> {
