@@ -1,7 +1,7 @@
 //! Random accounts, and accounts damaged so that each row of the table refuses some of them.
-use crate::fields::{self, Class, Record, Series, EQUITY};
+use crate::fields::{self, Class, Record, Series, EQUITY, EXPIRED_FUTURE, TYPES};
 use crate::layout::{class_at, counts, series_at, CLASS_WORDS, OFFSET, PROJECTED, SERIES_WORDS, WHOLE_OFFSET};
-use crate::reckoner::reckon;
+use crate::reckoner::{is_option, is_security, reckon};
 use crate::rng::Rng;
 
 #[derive(Clone, Debug)]
@@ -35,7 +35,7 @@ pub fn mixed(i: usize) -> Size {
     }
 }
 
-fn price(rng: &mut Rng) -> u32 {
+pub(crate) fn price(rng: &mut Rng) -> u32 {
     let limit = rng.pick(&[0, 100, 50_000, 5_000_000, 500_000_000]);
     if rng.once_in(12) {
         limit as u32
@@ -88,12 +88,16 @@ fn adjustment(rng: &mut Rng, closing: u32) -> u32 {
     }
 }
 
+/// Has a strike, or as an expired future a delivery price in its place.
+fn has_strike(t: u32) -> bool {
+    is_option(t) || t == EXPIRED_FUTURE
+}
+
 /// A series with this key and strike.
 pub(crate) fn series_record(rng: &mut Rng, key: u32, strike: u32) -> Vec<u32> {
     let closing = price(rng);
     let mut out = vec![word(2, key), word(4, rng.pick(&[1, 1, 5, 100, 1000, 10_000])), word(3, strike), word(3, closing)];
-    let option = matches!(key >> 19 & 15, 2 | 3);
-    out.push(word(3, if option { adjustment(rng, closing) } else { 0 }));
+    out.push(word(3, if is_option(key >> 19 & 15) { adjustment(rng, closing) } else { 0 }));
     out.extend((0..10).map(|_| word(3, near(rng, closing))));
     out
 }
@@ -126,10 +130,10 @@ pub fn day_file(rng: &mut Rng, classes: usize, series: usize) -> Vec<u32> {
     if classes > 0 {
         for _ in 0..series {
             let n = rng.pick(&numbers);
-            let t = rng.within(1, 6) as u32;
-            let expiry = if t <= 3 { rng.pick(&[0, 3, 6, 9, 12, 300, 4095]) + rng.below(3) as u32 } else { 0 };
-            let serial = if t >= 4 { rng.below(128) as u32 } else { 0 };
-            let strike = if t == 2 || t == 3 { price(rng) } else { 0 };
+            let t = rng.pick(&TYPES);
+            let expiry = if is_security(t) { 0 } else { rng.pick(&[0, 3, 6, 9, 12, 300, 4095]) + rng.below(3) as u32 };
+            let serial = if is_security(t) { rng.below(128) as u32 } else { 0 };
+            let strike = if has_strike(t) { price(rng) } else { 0 };
             keys.push((serial | (expiry & 4095) << 7 | t << 19 | n << 23, strike));
         }
         keys.sort_unstable();
@@ -146,7 +150,7 @@ fn series_word(day: &[u32], s: usize, i: usize) -> u32 {
     day[series_at(counts(day).0, s) + i]
 }
 
-pub(crate) fn type_of(day: &[u32], s: usize) -> u32 {
+pub fn type_of(day: &[u32], s: usize) -> u32 {
     series_word(day, s, 0) >> 19 & 15
 }
 
@@ -182,8 +186,8 @@ pub fn amount_words(negative: bool, size: u64) -> [u32; 3] {
 pub(crate) fn record(rng: &mut Rng, day: &[u32], s: usize) -> [u32; 6] {
     let t = type_of(day, s);
     let multiplier = u64::from(series_word(day, s, 1) & 0x1fff_ffff);
-    let exercised = (t == 2 || t == 3) && rng.once_in(3);
-    let security = t >= 4;
+    let exercised = is_option(t) && rng.once_in(3);
+    let security = is_security(t);
     let fail = security && rng.once_in(3);
     let most = 10_000_000 / multiplier;
     let size = rng.pick(&[0, 3, most / 200 + 1, most / 200 + 1, most]);
@@ -303,16 +307,16 @@ pub fn extreme(rng: &mut Rng) -> Account {
     let classes: Vec<Class> = (0..classes).map(|number| class(rng, number)).collect();
     let mut series: Vec<Series> = (0..256u32)
         .map(|i| {
-            let series_type = if (1..=6).contains(&only) { only } else { 1 + i / 2 % 6 };
+            let series_type = if TYPES.contains(&only) { only } else { TYPES[i as usize / 2 % TYPES.len()] };
             Series {
                 class_number: i % classes.len() as u32,
                 series_type,
-                expiry: if series_type <= 3 { i } else { 0 },
-                serial: if series_type >= 4 { i / 2 } else { 0 },
+                expiry: if is_security(series_type) { 0 } else { i },
+                serial: if is_security(series_type) { i / 2 } else { 0 },
                 multiplier: rng.pick(&[1, 1, 1, 10_000]),
-                strike: if series_type == 2 || series_type == 3 { high(rng) } else { 0 },
+                strike: if has_strike(series_type) { high(rng) } else { 0 },
                 closing: high(rng),
-                adjustment: if series_type == 2 || series_type == 3 { high(rng) } else { 0 },
+                adjustment: if is_option(series_type) { high(rng) } else { 0 },
                 theoretical: [0; 10].map(|_| high(rng)),
             }
         })
@@ -324,9 +328,9 @@ pub fn extreme(rng: &mut Rng) -> Account {
     for (i, s) in series.iter().enumerate() {
         let size = 10_000_000 / s.multiplier;
         let (long, short) = if down || rng.once_in(3) { (size, 0) } else { (0, size) };
-        let dvp = if s.series_type < 4 { 0 } else { 5_000_000_000_000_000 * if short > 0 { -1 } else { 1 } };
-        let exercised = (s.series_type == 2 || s.series_type == 3) && rng.once_in(2);
-        let fail = s.series_type >= 4 && groups > 1 && rng.once_in(2);
+        let dvp = if is_security(s.series_type) { 5_000_000_000_000_000 * if short > 0 { -1 } else { 1 } } else { 0 };
+        let exercised = is_option(s.series_type) && rng.once_in(2);
+        let fail = is_security(s.series_type) && groups > 1 && rng.once_in(2);
         records.push(Record { series: i as u32, exercised, fail, long, short, dvp });
     }
     fields::account(&classes, &series, &records)
@@ -404,7 +408,7 @@ pub fn damage(rng: &mut Rng, a: &mut Account) {
         17 if s > 0 => a.day[series(rng) + 1] = word(4, rng.pick(&[0, 1, 10_000, 10_001])),
         18 if s > 0 => {
             let at = series_at(c, s - 1);
-            a.day[at] = word(2, (a.day[at] & 0x7f_ffff) & !(15 << 19) | rng.pick(&[0, 7, 15]) << 19 | a.day[at] & 63 << 23);
+            a.day[at] = word(2, (a.day[at] & 0x7f_ffff) & !(15 << 19) | rng.pick(&[0, 7, 8, 9, 15]) << 19 | a.day[at] & 63 << 23);
         }
         // an adjustment: on an option any price, on another series refused
         30 if s > 0 => a.day[series(rng) + 4] = word(3, rng.pick(&[0, 1, 500_000_000, 500_000_001])),

@@ -1,11 +1,11 @@
 //! The committed cases for the call over words: accounts with a memory's length, and what is printed for each.
 use crate::accounts::{accepted, account, all_lines, damage, extreme, Account, LARGEST, SMALL, TYPICAL};
-use crate::fields::{self, Class, Record, Series, CALL, EQUITY};
+use crate::fields::{self, Class, Record, Series, CALL, EQUITY, EXPIRED_FUTURE, FUTURE};
 use crate::files::Made;
-use crate::layout::WHOLE_OFFSET;
+use crate::layout::{class_at, WHOLE_OFFSET};
 use crate::reckoner::{reckon, text, to_bytes, words, Refusal};
 use crate::rng::Rng;
-use crate::samples::{calls, samples, with_words, MINUS_ZERO, TOO_MANY, WRONG_KIND};
+use crate::samples::{calls, expired, samples, with_words, MINUS_ZERO, TOO_MANY, WRONG_KIND};
 use std::path::Path;
 
 pub struct Case {
@@ -68,6 +68,35 @@ pub fn with_underlying(underlying: u32) -> Account {
     fields::account(&[class(0, 51_000), class(1, underlying)], &[call(0), call(1)], &[record(0), record(1)])
 }
 
+/// U9's sample with these bits of a word of its series flipped.
+pub fn with_flipped(word: usize, bits: u32) -> Account {
+    let mut out = expired();
+    out.day[class_at(1) + word] ^= bits;
+    out
+}
+
+/// Such bits of U9's figures: for a serial of 1, type 7, an adjustment of a unit.
+pub const SERIAL_1: (usize, u32) = (0, 1);
+pub const TYPE_7: (usize, u32) = (0, (EXPIRED_FUTURE ^ 7) << 19);
+pub const ADJUSTMENT_1: (usize, u32) = (4, 1);
+
+/// Two open futures bought and three expired ones sold, of one class and expiry: delivery price 5.0, underlying price 5.5 at every point.
+pub fn open_and_expired() -> Account {
+    let class = Class {
+        group: 3,
+        underlying: 55_000,
+        spot_rate: 3_000_000,
+        non_spot_rate: 2_000_000,
+        future_rate: 10_000,
+        projected: [55_000; 10],
+        ..Class::default()
+    };
+    let open = Series { series_type: FUTURE, multiplier: 100, ..Series::default() };
+    let expired = Series { series_type: EXPIRED_FUTURE, strike: 50_000, ..open };
+    let records = [Record { series: 0, long: 2, ..Record::default() }, Record { series: 1, short: 3, ..Record::default() }];
+    fields::account(&[class], &[open, expired], &records)
+}
+
 fn needed(a: &Account) -> Option<usize> {
     reckon(&a.day, &a.batch).ok().map(|report| words(&report).len())
 }
@@ -107,6 +136,11 @@ pub fn cases() -> Vec<Case> {
     for underlying in [50_000, 52_000, 49_999, 52_001] {
         add(with_underlying(underlying), LONGEST);
     }
+    // those of U9 beside the sample: a serial, type 7, an adjustment; no spread with an open future and no minimum
+    for (word, bits) in [SERIAL_1, TYPE_7, ADJUSTMENT_1] {
+        add(with_flipped(word, bits), LONGEST);
+    }
+    add(open_and_expired(), LONGEST);
     let mut rng = Rng::new(2021);
     for _ in 0..16 {
         add(account(&mut rng, SMALL), LONGEST);

@@ -1,9 +1,11 @@
 //! Accounts of futures, deposits for their classes, and deposits damaged so that row 50 refuses them.
 use crate::accounts::{
-    account, amount_words, batch, damage, day_file, mixed, near, series_record, word, Account, Size, LARGEST, SMALL, TYPICAL,
+    account, amount_words, batch, damage, day_file, mixed, near, price, series_record, word, Account, Size, LARGEST, SMALL,
+    TYPICAL,
 };
-use crate::fields::{self, Class, Record, Series, FUTURE};
+use crate::fields::{self, Class, Record, Series, EXPIRED_FUTURE, FUTURE};
 use crate::layout::{class_at, counts, CLASS_WORDS, SERIES_WORDS};
+use crate::reckoner::is_future;
 use crate::rng::Rng;
 use std::collections::BTreeMap;
 
@@ -16,31 +18,64 @@ pub fn classes(day: &[u32]) -> BTreeMap<u32, u32> {
     records.map(|w| (w[0] >> 5 & 63, w[0] & 31)).collect()
 }
 
-/// Place, class number and multiplier of each future.
-fn futures(day: &[u32]) -> Vec<(usize, u32, u64)> {
-    let all = day[class_at(counts(day).0)..].chunks(SERIES_WORDS).enumerate();
-    all.filter(|(_, w)| w[0] >> 19 & 15 == 1).map(|(s, w)| (s, w[0] >> 23 & 63, u64::from(w[1] & 0x1fff_ffff))).collect()
+/// A future, open or expired, at its place in a day file.
+pub struct Future {
+    pub place: usize,
+    pub class: u32,
+    pub expired: bool,
+    pub expiry: u32,
+    pub multiplier: u64,
 }
 
-/// A day file of up to so many futures, and some other series. Most classes have one multiplier for their futures.
+/// All futures of a day file.
+pub fn futures(day: &[u32]) -> Vec<Future> {
+    let all = day[class_at(counts(day).0)..].chunks(SERIES_WORDS).enumerate();
+    let future = |(place, w): (usize, &[u32])| Future {
+        place,
+        class: w[0] >> 23 & 63,
+        expired: w[0] >> 19 & 15 == EXPIRED_FUTURE,
+        expiry: w[0] >> 7 & 4095,
+        multiplier: u64::from(w[1] & 0x1fff_ffff),
+    };
+    all.filter(|(_, w)| is_future(w[0] >> 19 & 15)).map(future).collect()
+}
+
+/// A day file of up to so many futures, and some other series. A class has open futures, expired ones or both, several of an expiry, and mostly
+/// one multiplier for all of them.
 fn futures_day(rng: &mut Rng, size: Size) -> Vec<u32> {
     let classes_count = rng.within(1, size.classes) as usize;
     let others = rng.below(size.series / 4 + 1) as usize;
     let mut day = day_file(rng, classes_count, others);
     let numbers: Vec<u32> = classes(&day).into_keys().collect();
+    // by class, the types of the futures of an expiry
+    let types: [&[u32]; 4] =
+        [&[FUTURE], &[EXPIRED_FUTURE; 2], &[FUTURE, EXPIRED_FUTURE], &[FUTURE, EXPIRED_FUTURE, EXPIRED_FUTURE]];
+    let types: Vec<(u32, &[u32])> = numbers.iter().map(|&n| (n, rng.pick(&types))).collect();
     let mut series: Vec<Vec<u32>> = day.split_off(class_at(classes_count)).chunks(SERIES_WORDS).map(<[u32]>::to_vec).collect();
-    for _ in 0..rng.within(1, size.series - others as u64) {
-        let (n, expiry) = (rng.pick(&numbers), rng.below(size.series + 4) as u32);
-        series.push(series_record(rng, expiry << 7 | 1 << 19 | n << 23, 0));
+    let count = rng.within(series.len() as u64 + 1, size.series) as usize;
+    while series.len() < count {
+        let ((n, types), expiry) = (rng.pick(&types), rng.below(size.series + 4) as u32);
+        for &t in types {
+            if rng.once_in(4) {
+                continue;
+            }
+            let strike = if t == EXPIRED_FUTURE { price(rng) } else { 0 };
+            series.push(series_record(rng, expiry << 7 | t << 19 | n << 23, strike));
+        }
     }
+    series.truncate(count);
     series.sort_by_key(|w| (w[0], w[2]));
     series.dedup_by_key(|w| (w[0], w[2]));
     for n in numbers {
-        if rng.once_in(12) {
-            continue;
+        let [one, other] = [(); 2].map(|_| rng.pick(&[1, 5, 100, 100, 1000, 10_000]));
+        let multipliers = match rng.below(12) {
+            0 => continue,
+            1 => [one, other],
+            _ => [one; 2],
+        };
+        for (t, multiplier) in [FUTURE, EXPIRED_FUTURE].into_iter().zip(multipliers) {
+            series.iter_mut().filter(|w| w[0] >> 19 & 1023 == t | n << 4).for_each(|w| w[1] = word(4, multiplier));
         }
-        let multiplier = word(4, rng.pick(&[1, 5, 100, 100, 1000, 10_000]));
-        series.iter_mut().filter(|w| w[0] >> 19 & 1023 == 1 | n << 4).for_each(|w| w[1] = multiplier);
     }
     day[0] = word(1, classes_count as u32 | (series.len() as u32) << 7);
     day.extend(series.concat());
@@ -53,9 +88,9 @@ fn futures_batch(rng: &mut Rng, day: &[u32]) -> Vec<u32> {
     let others = rng.below((257 - futures.len() as u64).min(6)) as usize;
     let mut out = batch(rng, day, others);
     let mut sizes = BTreeMap::new();
-    for (s, class, multiplier) in futures {
-        let most = 10_000_000 / multiplier;
-        let size = *sizes.entry(class).or_insert_with(|| rng.pick(&[1, 2, 5, 5, 40, most / 4, most / 2]));
+    for f in futures {
+        let most = 10_000_000 / f.multiplier;
+        let size = *sizes.entry(f.class).or_insert_with(|| rng.pick(&[1, 2, 5, 5, 40, most / 4, most / 2]));
         let (long, short) = match rng.below(9) {
             0 => continue,
             1 => (size, 0),
@@ -64,7 +99,7 @@ fn futures_batch(rng: &mut Rng, day: &[u32]) -> Vec<u32> {
             4 => (size, 2 * size + 1),
             _ => (0, size),
         };
-        out.extend([word(2, s as u32), word(4, long as u32), word(4, short as u32)]);
+        out.extend([word(2, f.place as u32), word(4, long as u32), word(4, short as u32)]);
         out.extend(amount_words(false, 0));
     }
     out[0] = word(1, (out.len() as u32 - 1) / 6);
@@ -116,16 +151,21 @@ pub fn mixed_futures(i: usize) -> Size {
     }
 }
 
-/// The shares that cover all net shorts of a class's futures, and its multiplier.
-fn whole_cover(a: &Account, class: u32) -> (u64, u64) {
+/// A class's futures with a net short in the ordinary book, each behind that net.
+pub fn shorts(a: &Account, class: u32) -> Vec<(u64, Future)> {
     let mut nets: BTreeMap<usize, i64> = BTreeMap::new();
     for w in a.batch[1..].chunks(6) {
         *nets.entry((w[0] & 1023) as usize).or_default() += i64::from(w[2] & 0x1fff_ffff) - i64::from(w[1] & 0x1fff_ffff);
     }
-    let own: Vec<(usize, u32, u64)> = futures(&a.day).into_iter().filter(|f| f.1 == class).collect();
-    let multiplier = own.first().map_or(1, |f| f.2);
-    let shorts: i64 = own.iter().map(|f| nets.get(&f.0).map_or(0, |&n| n.max(0))).sum();
-    (shorts as u64 * multiplier, multiplier)
+    let own = futures(&a.day).into_iter().filter(|f| f.class == class);
+    own.map(|f| (nets.get(&f.place).map_or(0, |&n| n.max(0) as u64), f)).filter(|(net, _)| *net > 0).collect()
+}
+
+/// The shares that cover all net shorts of a class's futures, and its multiplier.
+fn whole_cover(a: &Account, class: u32) -> (u64, u64) {
+    let shorts = shorts(a, class);
+    let multiplier = shorts.first().map_or(1, |(_, f)| f.multiplier);
+    (shorts.iter().map(|(net, _)| net * multiplier).sum(), multiplier)
 }
 
 /// A deposit for one class: mostly fewer shares than cover all its net shorts.

@@ -4,7 +4,9 @@ use crate::files::{top, Made};
 use crate::layout::{class_at, counts, CLASS_WORDS, PROJECTED, UNDERLYING};
 use crate::many::{call_all, reports};
 use crate::reading::read_report;
-use crate::reckoner::{call_bytes, call_words, check_length, net, read_day, read_records, text, to_bytes, to_words, Refusal};
+use crate::reckoner::{
+    call_bytes, call_words, check_length, is_expired_future, net, read_day, read_records, text, to_bytes, to_words, Refusal,
+};
 use crate::requests::{cases, check_rewriting, numbers, path, report_cases, rewritings, Case, REPORTS};
 use crate::rewriting::{add_record, rewrite};
 use crate::vectors::vectors;
@@ -25,8 +27,8 @@ pub fn with_prices_in_order(day: &[u32]) -> Vec<u32> {
     out
 }
 
-/// The heads of the lines that read projected prices which the conversion changed: of groups with a net of an exercised option of such a class.
-/// An option is no fail.
+/// The heads of the lines that read projected prices which the conversion changed: of groups with a net of an exercised option or, since U9, of
+/// an expired future of such a class. Neither is a fail.
 pub fn heads(before: &[u32], after: &[u32], batch: &[u32]) -> Result<BTreeSet<String>, Refusal> {
     let day = read_day(after)?;
     check_length(batch)?;
@@ -36,7 +38,8 @@ pub fn heads(before: &[u32], after: &[u32], batch: &[u32]) -> Result<BTreeSet<St
         let number = day.series[place].class_number;
         let c = day.classes.iter().position(|class| class.number == number).expect("a class");
         let words = class_at(c)..class_at(c + 1);
-        if exercised && position.net != 0 && before[words.clone()] != after[words] {
+        let reads = exercised || is_expired_future(day.series[place].series_type);
+        if reads && position.net != 0 && before[words.clone()] != after[words] {
             out.insert(format!("O {} ", day.classes[c].group));
         }
     }

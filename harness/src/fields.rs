@@ -9,6 +9,10 @@ pub const FUTURE: u32 = 1;
 pub const CALL: u32 = 2;
 pub const PUT: u32 = 3;
 pub const EQUITY: u32 = 4;
+pub const EXPIRED_FUTURE: u32 = 8;
+
+/// All types of a series: futures, calls, puts, equities, warrants, rights, expired futures.
+pub const TYPES: [u32; 7] = [FUTURE, CALL, PUT, EQUITY, 5, 6, EXPIRED_FUTURE];
 
 #[derive(Clone, Copy, Default)]
 pub struct Class {

@@ -1,7 +1,7 @@
 //! Accounts made by their positions: many records of a few, or as many positions as a batch has records.
 use crate::accounts::{day_file, record, type_of, word, Account, Size};
 use crate::layout::counts;
-use crate::reckoner::MOST_DVP;
+use crate::reckoner::{is_option, is_security, MOST_DVP};
 use crate::records::{batch_of, dvp, is_held, set_dvp};
 use crate::rng::Rng;
 
@@ -10,9 +10,9 @@ pub(crate) fn keys(day: &[u32]) -> Vec<u32> {
     let of_series = |s: usize| {
         let open = word(2, s as u32);
         match type_of(day, s) {
-            1 => vec![open],
-            2 | 3 => vec![open, open | 1 << 8],
-            _ => vec![open, open | 1 << 9],
+            t if is_option(t) => vec![open, open | 1 << 8],
+            t if is_security(t) => vec![open, open | 1 << 9],
+            _ => vec![open],
         }
     };
     (0..counts(day).1).flat_map(of_series).collect()
@@ -37,7 +37,7 @@ pub(crate) fn next_record(rng: &mut Rng, day: &[u32], before: &[[u32; 6]], key: 
             set_dvp(&mut out, -dvp(&closed));
         }
     }
-    if type_of(day, (key & 255) as usize) >= 4 && rng.once_in(12) {
+    if is_security(type_of(day, (key & 255) as usize)) && rng.once_in(12) {
         let sum: i128 = own.iter().map(dvp).sum();
         let z = rng.pick(&[1, -1]) * (MOST_DVP + i128::from(rng.below(2))) - sum;
         if z.abs() <= MOST_DVP {

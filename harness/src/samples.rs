@@ -1,6 +1,6 @@
 //! The sample accounts, made from their fields.
 use crate::accounts::Account;
-use crate::fields::{account, expiry, Class, Record, Series, CALL, EQUITY, FUTURE, PUT};
+use crate::fields::{account, expiry, Class, Record, Series, CALL, EQUITY, EXPIRED_FUTURE, FUTURE, PUT};
 use crate::files::Made;
 use crate::reckoner::{reckon, text, to_bytes};
 use std::path::Path;
@@ -164,6 +164,28 @@ fn offset() -> Account {
     account(&[class(0), class(1)], &[share(0, 125_000), share(1, 200_000)], &records)
 }
 
+/// U9's expired future, ten sold. No amount reads its closing price and its theoretical prices.
+pub fn expired() -> Account {
+    let class = Class {
+        group: 3,
+        underlying: 55_000,
+        future_rate: EURO,
+        offset: 8_500,
+        projected: [50_000, 51_000, 52_000, 53_000, 54_000, 56_000, 57_000, 58_000, 59_000, 60_000],
+        ..Class::default()
+    };
+    let series = Series {
+        series_type: EXPIRED_FUTURE,
+        expiry: expiry(2021, 3),
+        multiplier: 100,
+        strike: 50_000,
+        closing: 54_000,
+        theoretical: [54_000; 10],
+        ..Series::default()
+    };
+    account(&[class], &[series], &[Record { short: 10, ..Record::default() }])
+}
+
 /// M8: a net of 1,001 at multiplier 10,000, in the second record.
 fn refused() -> Account {
     let projected = moved(10_000, SHARE_MOVES);
@@ -202,6 +224,11 @@ pub fn samples() -> Vec<Sample> {
             "offset",
             "U6: 1,000 shares sold and 500 of another class of the group bought, offset 82.75%: at upside 5 a debit of 1,250 less 827.50 of a credit of 1,000.",
             offset(),
+        ),
+        sample(
+            "expired",
+            "U9: ten expired futures sold, delivery price 5.00, underlying price 5.50, at upside 5 6.00; MTM 500, additional 500.",
+            expired(),
         ),
         sample(
             "word",

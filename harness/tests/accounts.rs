@@ -1,9 +1,14 @@
-//! Prices of the accounts that are made here: in order, at each place of row 18 often equal and often not.
-use harness::accounts::{account, extreme, in_order, mixed, ORDER};
+//! The accounts that are made here: prices in order, at each place of row 18 often equal and often not; positions of every type.
+use harness::accounts::{account, extreme, in_order, mixed, type_of, Account, LARGEST, ORDER};
+use harness::cases::cases;
 use harness::deposits::{futures_account, mixed_futures};
-use harness::layout::{class_at, counts, CLASS_WORDS, UNDERLYING};
-use harness::positions::traded;
+use harness::fields::TYPES;
+use harness::layout::{class_at, counts, CLASS_WORDS, MOST_RECORDS, UNDERLYING};
+use harness::positions::{traded, with_positions};
+use harness::reckoner::reckon;
+use harness::records::{is_held, records_of};
 use harness::rng::Rng;
+use std::collections::BTreeMap;
 
 #[test]
 fn prices_of_random_classes() {
@@ -42,5 +47,38 @@ fn prices_in_order_stay() {
         let once = in_order(underlying, prices);
         assert!(once.is_sorted() && (once[4]..=once[5]).contains(&underlying), "case {i}");
         assert_eq!(in_order(underlying, once), once, "case {i}");
+    }
+}
+
+/// Of the accounts that are accepted, by type the records that are held.
+fn held(accounts: impl Iterator<Item = Account>) -> BTreeMap<u32, usize> {
+    let mut out = BTreeMap::new();
+    for a in accounts.filter(|a| reckon(&a.day, &a.batch).is_ok()) {
+        for r in records_of(&a.batch).iter().filter(|r| is_held(r)) {
+            *out.entry(type_of(&a.day, (r[0] & 255) as usize)).or_default() += 1;
+        }
+    }
+    out
+}
+
+#[test]
+fn types_that_are_held() {
+    let mut rng = Rng::new(97);
+    let random = held((0..2000).map(|i| account(&mut rng, mixed(i))));
+    let of_futures = held((0..2000).map(|i| futures_account(&mut rng, mixed_futures(i))));
+    let traded = held((0..2000).map(|i| traded(&mut rng, mixed(i))));
+    let positions = held((0..40).map(|_| with_positions(&mut rng, LARGEST, MOST_RECORDS, MOST_RECORDS)));
+    let extremes = held((0..200).map(|_| extreme(&mut rng)));
+    let committed = held(cases().into_iter().map(|case| case.account));
+    for (name, held) in [
+        ("random", random),
+        ("of futures", of_futures),
+        ("traded", traded),
+        ("of 256 positions", positions),
+        ("extreme", extremes),
+        ("committed", committed),
+    ] {
+        println!("{name}: {held:?}");
+        assert!(TYPES.iter().all(|t| held[t] >= 20), "{name}");
     }
 }

@@ -1,11 +1,11 @@
 //! The call over words with deposits against the reckoner: number, place and every word of the memory.
 use harness::accounts::{account, damage, mixed, Account};
-use harness::deposits::{deposits, futures_account, mixed_case, mixed_futures};
+use harness::deposits::{deposits, futures, futures_account, mixed_case, mixed_futures, shorts};
 use harness::layout::{LONGEST_BATCH, LONGEST_DAY};
 use harness::reckoner::{call_words, reckon, reckon_with, to_bytes, to_words, words, Refusal};
 use harness::rng::Rng;
 use harness::unit;
-use std::collections::BTreeMap;
+use std::collections::{BTreeMap, BTreeSet};
 
 const GUARD: usize = 8;
 const LONGEST: usize = 1115;
@@ -36,6 +36,37 @@ fn room(rng: &mut Rng, a: &Account, deposits: &[u32]) -> usize {
     }
 }
 
+/// Of the futures that agree in net short and expiry those beside each other, in the order of cover, of which the deposit covers unlike
+/// numbers: an open one before an expired one, and two expired ones.
+fn ties(a: &Account, deposit: &[u32]) -> [usize; 2] {
+    let shorts = shorts(a, deposit[0]);
+    let mut left = shorts.first().map_or(0, |(_, f)| u64::from(deposit[1]) / f.multiplier);
+    // in the order of their places, the open one first
+    let mut equal: BTreeMap<(u64, u32), Vec<bool>> = BTreeMap::new();
+    shorts.iter().for_each(|(net, f)| equal.entry((*net, f.expiry)).or_default().push(f.expired));
+    let mut out = [0; 2];
+    for ((net, _), expired) in equal.into_iter().rev() {
+        let mut before = None;
+        for is_expired in expired {
+            let taken = net.min(left);
+            left -= taken;
+            if let Some((was_expired, other)) = before {
+                out[usize::from(was_expired)] += usize::from(taken != other);
+            }
+            before = Some((is_expired, taken));
+        }
+    }
+    out
+}
+
+/// The multipliers of a class's futures: of the open ones, and of the expired ones.
+fn multipliers(a: &Account, class: u32) -> [BTreeSet<u64>; 2] {
+    [false, true].map(|expired| {
+        let own = futures(&a.day).into_iter().filter(|f| f.class == class && f.expired == expired);
+        own.map(|f| f.multiplier).collect()
+    })
+}
+
 #[test]
 fn random_and_damaged_deposits() {
     let mut rng = Rng::new(5001);
@@ -43,6 +74,8 @@ fn random_and_damaged_deposits() {
     let mut numbers: BTreeMap<u32, usize> = BTreeMap::new();
     // refusals by row 50 of an odd number of words; by 50 and 51 of a deposit behind the first; reports that are others without deposits
     let (mut odd, mut behind, mut covered) = (0, BTreeMap::new(), 0);
+    // ties that an accepted deposit decides; refusals by row 51 where open futures and expired ones are alike each, and of expired ones alone
+    let (mut tied, mut both_alike, mut expired_alone) = ([0; 2], 0, 0);
     for i in 0..40_000 {
         let (a, deposits) = mixed_case(&mut rng, i);
         let room = room(&mut rng, &a, &deposits);
@@ -51,10 +84,18 @@ fn random_and_damaged_deposits() {
                 *numbers.entry(r.number).or_default() += 1;
                 odd += usize::from(r.number == 50 && deposits.len() % 2 == 1);
                 *behind.entry(r.number).or_insert(0) += usize::from(r.place > 0);
+                if r.number == 51 {
+                    let counts = multipliers(&a, deposits[2 * r.place]).map(|m| m.len());
+                    both_alike += usize::from(counts == [1, 1]);
+                    expired_alone += usize::from(counts[0] == 0);
+                }
             }
             Ok(_) => {
                 *numbers.entry(0).or_default() += 1;
                 covered += usize::from(reckon(&a.day, &a.batch) != reckon_with(&a.day, &a.batch, &deposits));
+                for deposit in deposits.chunks(2) {
+                    tied.iter_mut().zip(ties(&a, deposit)).for_each(|(n, more)| *n += more);
+                }
             }
         }
     }
@@ -62,10 +103,14 @@ fn random_and_damaged_deposits() {
         "answers by number: {numbers:?}; 50 by an odd number: {odd}; 50 and 51 behind the first: {}, {}",
         behind[&50], behind[&51]
     );
-    println!("{covered} reports changed by deposits");
+    println!(
+        "{covered} reports changed by deposits; ties decided of an open and an expired future, of two expired ones: {tied:?}"
+    );
+    println!("51 of open and expired futures that are alike each: {both_alike}; of expired ones alone: {expired_alone}");
     assert!(numbers[&0] >= 10_000 && numbers[&30] >= 100 && numbers[&40] >= 1000);
     assert!(odd >= 1000 && numbers[&50] - odd >= 1000 && numbers[&51] >= 1000 && covered >= 5000);
     assert!(behind[&50] >= 500 && behind[&51] >= 500);
+    assert!(tied.iter().all(|&n| n >= 300) && both_alike >= 500 && expired_alone >= 300);
 }
 
 /// Without deposits the words and the answer of the byte call, for files that rows 1 and 2 pass.

@@ -3,8 +3,9 @@
 use harness::accounts::{account, damage, mixed, out_of_order};
 use harness::cases::with_underlying;
 use harness::editions::{converted, heads, is_kept, with_prices_in_order};
+use harness::fields::{CALL, EXPIRED_FUTURE};
 use harness::files::top;
-use harness::layout::{class_at, counts, CLASS_WORDS, PROJECTED, UNDERLYING};
+use harness::layout::{class_at, counts, series_at, CLASS_WORDS, PROJECTED, UNDERLYING};
 use harness::reckoner::{read_day, reckon, text, Refusal};
 use harness::rng::Rng;
 use std::fs;
@@ -88,7 +89,7 @@ fn answers_stay() {
         }
         let now = with_prices_in_order(&a.day);
         let [printed, before] = [&now, &flat].map(|day| text(&reckon(day, &a.batch)));
-        // the edition before gave this account, with these prices, what this one gives
+        // the edition before gave this account, with these prices, what this one gives where it has no expired future
         let changed = heads(&flat, &now, &a.batch).unwrap_or_default();
         assert!(is_kept(&before, &printed, &changed), "case {i}");
         let refused = printed.starts_with("REFUSED");
@@ -116,7 +117,7 @@ fn changes_of_a_text_that_are_not_kept() {
     assert!(!kept("REFUSED 18 0\n", &["O 3 "]) && !kept("MARGIN 1\nO 3 1 2 3 4 10 0\nTOTAL 20 0 20\n", &["O 3 "]));
 }
 
-/// No prices changed, or no net of an exercised option: no line moves.
+/// No prices changed, or no net of an exercised option or an expired future: no line moves.
 #[test]
 fn lines_that_read_projected_prices() {
     let before = with_underlying(51_000);
@@ -131,6 +132,17 @@ fn lines_that_read_projected_prices() {
         batch[at] = w;
         assert!(of(&batch).expect("accepted").is_empty(), "word {at}");
     }
+    // an expired future in the call's stead, of the class whose prices change
+    let [first, second] = [&before.day, &after].map(|day| {
+        let mut day = day.clone();
+        day[series_at(2, 1)] ^= (CALL ^ EXPIRED_FUTURE) << 19;
+        day
+    });
+    let mut batch = before.batch.clone();
+    batch[7] = 2 << 29 | 1;
+    assert_eq!(heads(&first, &second, &batch).expect("accepted").len(), 1);
+    batch[9] = 4 << 29 | 3;
+    assert!(heads(&first, &second, &batch).expect("accepted").is_empty());
     assert_eq!(of(&before.batch[1..]).err(), Some(Refusal { number: 20, place: 0 }));
 }
 

@@ -1,8 +1,10 @@
 //! The scope's figures that are run, at the byte call; those of deposits at the call over words.
 use harness::accounts::{opposed, Account, ORDER};
-use harness::cases::{with_credit, with_offset, with_records, with_underlying};
+use harness::cases::{
+    open_and_expired, with_credit, with_flipped, with_offset, with_records, with_underlying, ADJUSTMENT_1, SERIAL_1, TYPE_7,
+};
 use harness::deposits::MOST_SHARES;
-use harness::fields::{account, expiry, Class, Record, Series, CALL, FUTURE};
+use harness::fields::{account, expiry, Class, Record, Series, CALL, EXPIRED_FUTURE, FUTURE};
 use harness::layout::{class_at, UNDERLYING};
 use harness::reading::read_report;
 use harness::reckoner::{reckon, reckon_with, text, to_bytes, to_words, Refusal, Report};
@@ -296,4 +298,151 @@ fn deposits_between_30_and_40() {
     // covered, it would be within the limit
     assert_eq!(refused(&above, &[0, MOST_SHARES]), (30, 1));
     assert_eq!(refused(&above, &[0]), (30, 1));
+}
+
+/// U9's example: four of ten contracts are covered.
+#[test]
+fn an_expired_future() {
+    let a = sample("expired");
+    let amounts = |deposits: &[[u32; 2]]| with(&a, deposits).expect("accepted").lines[0].amounts;
+    // MTM and additional margin of so many contracts
+    let expected = |contracts: i128| [0, 500_000 * contracts, 0, 500_000 * contracts, 1_000_000 * contracts, 0];
+    assert_eq!(run(&a).expect("accepted").lines[0].amounts, expected(10));
+    for (shares, contracts) in [(0, 10), (99, 10), (100, 9), (450, 6), (999, 1), (1_000, 0), (MOST_SHARES, 0)] {
+        assert_eq!(amounts(&[[0, shares]]), expected(contracts), "{shares}");
+    }
+    // covered whole it keeps its line
+    assert_eq!(text(&with(&a, &[[0, 1_000]])), "MARGIN 1\nO 3 0 0 0 0 0 0\nTOTAL 0 0 0\n");
+    // the closing price and the theoretical prices are not read, but row 12 holds
+    for word in [3, 5, 14] {
+        assert_eq!(run(&with_flipped(word, 1 << 12)), run(&a), "{word}");
+        assert_eq!(number_and_place(&with_flipped(word, 15 << 25)), (12, 1), "{word}");
+    }
+}
+
+/// At downside 5 ten bought lose what ten sold do at upside 5, and no deposit covers them.
+#[test]
+fn an_expired_future_bought() {
+    let mut a = sample("expired");
+    a.batch.swap(2, 3);
+    let report = with(&a, &[]);
+    assert_eq!(report.as_ref().expect("accepted").lines[0].amounts, [0, -5_000_000, 0, 5_000_000, 0, 0]);
+    assert_eq!(with(&a, &[[0, MOST_SHARES]]), report);
+}
+
+#[test]
+fn refused_expired_futures() {
+    for (word, bits) in [SERIAL_1, TYPE_7, ADJUSTMENT_1, (0, 1 << 6), (0, 1 << 19), (0, 8 << 19)] {
+        assert_eq!(number_and_place(&with_flipped(word, bits)), (17, 0), "{word}, {bits}");
+    }
+    // any expiry and delivery price
+    for (word, bits) in [(0, 4095 << 7), (2, 50_000), (2, 500_000_000 ^ 50_000)] {
+        assert_eq!(number_and_place(&with_flipped(word, bits)), (0, 0), "{word}, {bits}");
+    }
+    // exercised, a fail, a unit of DVP, one of minus
+    for (bits, expected) in [([1 << 8, 0, 0], 24), ([1 << 9, 0, 0], 25), ([0, 0, 1], 26), ([0, 1 << 28, 1], 26)] {
+        let mut a = sample("expired");
+        [1, 4, 6].into_iter().zip(bits).for_each(|(at, bits)| a.batch[at] ^= bits);
+        assert_eq!(number_and_place(&a), (expected, 0));
+    }
+}
+
+fn expired(class_number: u32, month: u32, multiplier: u32, delivery_price: u32) -> Series {
+    Series { series_type: EXPIRED_FUTURE, strike: delivery_price, ..future(class_number, month, multiplier) }
+}
+
+/// Neither spread nor minimum, which the open futures beside it have alone.
+#[test]
+fn an_expired_future_beside_open_ones() {
+    // open futures bought, expired ones sold: a minimum of two and the MTM of three
+    assert_eq!(run(&open_and_expired()).expect("accepted").lines[0].amounts, [0, 1_500_000, 0, 20_000, 1_520_000, 0]);
+    // it is no spot month before the open ones, and no quantity of theirs
+    let class = Class { underlying: 10_000, projected: [10_000; 10], ..rated(0, 0) };
+    let series = [future(0, 6, 100), future(0, 9, 100), expired(0, 3, 100, 10_000), expired(0, 12, 100, 10_000)];
+    let long = |series, long| Record { series, long, ..Record::default() };
+    let open = [short(0, 2), long(1, 3)];
+    let report = |records: &[Record]| with(&account(&[class], &series, records), &[]).expect("accepted");
+    assert_eq!(report(&open).lines[0].amounts, [10_000_000, 0, 0, 10_000, 10_010_000, 0]);
+    assert_eq!(report(&[open[0], open[1], short(2, 7), long(3, 5)]), report(&open));
+}
+
+/// At each point both add to their class's sum, of which a credit is offset; prices are those of the class.
+#[test]
+fn points_of_open_and_expired_futures() {
+    let class = |number, underlying, upside_5| {
+        let mut projected = [underlying; 10];
+        projected[9] = upside_5;
+        Class { number, underlying, offset: 5_000, projected, ..Class::default() }
+    };
+    let gaining = Series { theoretical: [0, 0, 0, 0, 0, 0, 0, 0, 0, 900], ..future(0, 3, 1) };
+    let series = [gaining, expired(0, 3, 1, 10_000), expired(1, 3, 1, 20_000)];
+    let classes = [class(0, 10_000, 10_400), class(1, 20_000, 20_600)];
+    let requirement = |nets: [i32; 3]| {
+        let record = |(series, net): (u32, i32)| Record {
+            series,
+            long: (-net).max(0) as u32,
+            short: net.max(0) as u32,
+            ..Record::default()
+        };
+        let records: Vec<Record> = (0..).zip(nets).map(record).collect();
+        with(&account(&classes, &series, &records), &[]).expect("accepted").lines[0].amounts[3]
+    };
+    // 900, 400 and 600 a contract
+    assert_eq!((requirement([1, 0, 0]), requirement([0, 1, 0]), requirement([0, 0, 1])), (900, 400, 600));
+    assert_eq!((requirement([1, -1, 0]), requirement([1, 1, 0]), requirement([1, 1, 1])), (500, 1_300, 1_900));
+    // of the second class a credit of 600 at half, beside the first's debit of 900
+    assert_eq!((requirement([1, 0, -1]), requirement([1, -2, -1])), (600, 0));
+}
+
+/// An open future and two expired ones of March and an expired one of June, so many of each sold, at multiplier 1. What is left with so many
+/// shares: a contract of the open one adds 1,000 at each point, of the expired ones the first has an MTM of 100, the second of 10, that of June
+/// of 1.
+fn left(sold: [u32; 4], shares: u32) -> [i128; 4] {
+    let class = Class { underlying: 10_000, projected: [10_000; 10], ..Class::default() };
+    let open = Series { theoretical: [1_000; 10], ..future(0, 3, 1) };
+    let series = [open, expired(0, 3, 1, 9_900), expired(0, 3, 1, 9_990), expired(0, 6, 1, 9_999)];
+    let records = [3, 1, 0, 2].map(|s| short(s, sold[s as usize]));
+    let amounts = with(&account(&[class], &series, &records), &[[0, shares]]).expect("accepted").lines[0].amounts;
+    [amounts[3] / 1_000, amounts[1] / 100, amounts[1] / 10 % 10, amounts[1] % 10]
+}
+
+/// Of equal nets and expiries the open one is covered first, then that of the lower place.
+#[test]
+fn cover_of_open_and_expired_futures() {
+    let figures = [
+        (0, [3, 3, 3, 3]),
+        (2, [3, 3, 3, 1]),
+        (3, [3, 3, 3, 0]),
+        (5, [1, 3, 3, 0]),
+        (6, [0, 3, 3, 0]),
+        (7, [0, 2, 3, 0]),
+        (9, [0, 0, 3, 0]),
+        (11, [0, 0, 1, 0]),
+        (12, [0, 0, 0, 0]),
+    ];
+    for (shares, expected) in figures {
+        assert_eq!(left([3; 4], shares), expected, "{shares}");
+    }
+    // the larger before the further, open or expired
+    assert_eq!(left([3, 3, 4, 3], 5), [3, 3, 0, 2]);
+    assert_eq!(left([4, 3, 3, 3], 5), [0, 3, 3, 2]);
+    assert_eq!(left([2, 4, 3, 3], 9), [2, 0, 1, 0]);
+}
+
+/// Of class 0 an open and an expired future have unlike multipliers, of class 1 two expired ones; class 2 has one for its futures.
+#[test]
+fn multipliers_of_open_and_expired_futures() {
+    let call = Series { series_type: CALL, ..future(2, 3, 5) };
+    let of_2 = [future(2, 3, 100), call, expired(2, 3, 100, 7), expired(2, 6, 100, 7)];
+    let series = [&[future(0, 3, 100), expired(0, 3, 50, 7), expired(1, 3, 100, 7), expired(1, 3, 50, 8)], &of_2[..]].concat();
+    let of = |records: &[Record]| account(&[0, 1, 2].map(|c| rated(c, c)), &series, records);
+    let refused = |records: &[Record], deposits: &[[u32; 2]]| with(&of(records), deposits).err().map(|r| (r.number, r.place));
+    let held = [short(0, 2), short(6, 2)];
+    assert_eq!(refused(&held, &[]), None);
+    assert_eq!(refused(&held, &[[2, 100]]), None);
+    assert_eq!(refused(&held, &[[0, 100]]), Some((51, 0)));
+    assert_eq!(refused(&held, &[[2, 100], [1, 0]]), Some((51, 1)));
+    // row 30 holds before cover
+    assert_eq!(refused(&[short(0, 2), short(6, 100_001)], &[[2, MOST_SHARES]]), Some((30, 1)));
+    assert_eq!(refused(&[short(0, 2), short(6, 100_000)], &[[2, MOST_SHARES]]), None);
 }

@@ -1,7 +1,7 @@
 //! The benchmark's baseline against the reckoner: the same answers and memories.
 use harness::accounts::{accepted, account, damage, mixed, out_of_order};
 use harness::additions::mixed_addition;
-use harness::deposits::mixed_case;
+use harness::deposits::{mixed_case, shorts};
 use harness::layout::LONGEST_BATCH;
 use harness::plain::{self, NETS};
 use harness::reckoner::{call_bytes, call_words, to_bytes, Refusal};
@@ -51,6 +51,8 @@ fn baseline_agrees_with_the_reckoner_on_prices_out_of_order() {
 #[test]
 fn baseline_agrees_with_the_reckoner_on_deposits() {
     let mut rng = Rng::new(9);
+    // reports with an expired future that a deposit may cover
+    let mut expired = 0;
     for i in 0..6000 {
         let (a, deposits) = mixed_case(&mut rng, i);
         let room = if i % 7 == 0 { rng.below(150) as usize } else { 1115 };
@@ -58,7 +60,11 @@ fn baseline_agrees_with_the_reckoner_on_deposits() {
         let expected = packed(call_words(&a.day, &a.batch, &deposits, &mut theirs));
         assert_eq!(plain::call_words(&a.day, &a.batch, &deposits, &mut ours), expected, "case {i}");
         assert_eq!(ours, theirs, "case {i}");
+        let of_expired = |class| shorts(&a, class).iter().any(|(_, f)| f.expired);
+        expired += usize::from(expected >> 32 == 0 && deposits.chunks(2).any(|d| of_expired(d[0])));
     }
+    println!("{expired} reports with an expired future in a class with a deposit");
+    assert!(expired >= 500);
 }
 
 #[test]

@@ -1,8 +1,9 @@
 //! The byte call against the reckoner: number, place and every byte of the memory.
 use harness::accounts::{
-    accepted, account, all_lines, damage, damage_word, extreme, mixed, out_of_order, utmost, without_adjustments,
+    accepted, account, all_lines, damage, damage_word, extreme, mixed, out_of_order, type_of, utmost, without_adjustments,
     without_decimals, Account, ORDER, SMALL, TYPICAL, WORD_WAYS,
 };
+use harness::fields::{EXPIRED_FUTURE, TYPES};
 use harness::layout::{counts, series_at, CLASS_WORDS, LONGEST_BATCH, LONGEST_DAY};
 use harness::reading::read_report;
 use harness::reckoner::{call_bytes, first_bad_record, reckon, text, to_bytes, to_words, words, Refusal};
@@ -74,6 +75,9 @@ fn random_and_damaged_accounts() {
     let mut adjusted: BTreeMap<u32, usize> = BTreeMap::new();
     // .. and without the decimals of the offsets
     let mut decimals: BTreeMap<u32, usize> = BTreeMap::new();
+    // refusals by row 17 and the type of the series; of expired futures by serial and adjustment, and by rows 24 to 26
+    let mut refused_types: BTreeMap<u32, usize> = BTreeMap::new();
+    let (mut expired, mut expired_records) = ([0; 2], BTreeMap::new());
     let mut longest = 0;
     for i in 0..60_000 {
         let mut a = account(&mut rng, mixed(i));
@@ -98,18 +102,32 @@ fn random_and_damaged_accounts() {
         if matches!(number, 0 | 12 | 14) && reckon(&a.day, &a.batch) != reckon(&without_decimals(&a.day), &a.batch) {
             *decimals.entry(number).or_default() += 1;
         }
-        if let Ok(n) = result {
-            longest = longest.max(n);
-            // as the bytes have them: a damage of those may mend one of the words
-            let (day, batch) = (to_words(&day), to_words(&batch));
-            let classes = counts(&day).0;
-            for record in batch[1..].chunks(6) {
-                let series = series_at(classes, (record[0] & 255) as usize);
-                types.insert((day[series] >> 19 & 15, record[0] >> 8 & 1 == 1, record[0] >> 9 & 1 == 1));
+        // as the bytes have them: a damage of those may mend one of the words
+        let (day, batch) = (to_words(&day), to_words(&batch));
+        match result {
+            Ok(n) => {
+                longest = longest.max(n);
+                for record in batch[1..].chunks(6) {
+                    let t = type_of(&day, (record[0] & 255) as usize);
+                    types.insert((t, record[0] >> 8 & 1 == 1, record[0] >> 9 & 1 == 1));
+                }
             }
+            Err(Refusal { number: 17, place }) => {
+                let (t, series) = (type_of(&day, place), series_at(counts(&day).0, place));
+                *refused_types.entry(t).or_default() += 1;
+                let reasons = [day[series] & 127 != 0, day[series + 4] != 3 << 29];
+                expired.iter_mut().zip(reasons).for_each(|(n, holds)| *n += usize::from(t == EXPIRED_FUTURE && holds));
+            }
+            Err(Refusal { number: number @ 24..=26, place }) => {
+                if type_of(&day, (batch[1 + 6 * place] & 255) as usize) == EXPIRED_FUTURE {
+                    *expired_records.entry(number).or_insert(0) += 1;
+                }
+            }
+            Err(_) => {}
         }
     }
     println!("answers by number: {numbers:?}, by the adjustments: {adjusted:?}, by the offsets' decimals: {decimals:?}");
+    println!("17 by type: {refused_types:?}; expired futures by 17 for serial, adjustment: {expired:?}, by 24 to 26: {expired_records:?}");
     println!("longest report: {longest} words");
     let reached: Vec<u32> = numbers.keys().copied().collect();
     let table = [0, 1, 2, 10, 11, 12, 13, 14, 15, 16, 17, 18, 20, 21, 22, 23, 24, 25, 26, 27, 28, 30, 40];
@@ -117,8 +135,10 @@ fn random_and_damaged_accounts() {
     assert!(numbers[&0] >= 20_000 && numbers[&18] >= 1000);
     assert!(adjusted[&0] >= 500 && adjusted[&12] >= 50 && adjusted[&17] >= 50);
     assert!(decimals[&0] >= 500 && decimals[&12] >= 50 && decimals[&14] >= 50);
+    assert!([0, 7, 9, 15].iter().all(|t| refused_types[t] >= 30) && expired.iter().all(|&n| n >= 50));
+    assert!((24..=26).all(|row| expired_records[&row] >= 30));
     // every type open and in the ordinary book, options exercised, securities as fails
-    let open = (1..=6).map(|t| (t, false, false));
+    let open = TYPES.into_iter().map(|t| (t, false, false));
     let all: BTreeSet<_> = open.chain([(2, true, false), (3, true, false)]).chain((4..=6).map(|t| (t, false, true))).collect();
     assert_eq!(types, all);
 }
