@@ -8,6 +8,10 @@
  * A class's offset in the day file is in hundredths of a percent. Nothing marks a file from before request U6, whose offsets
  * are in percent: its 85 reads as 0.85 percent.
  *
+ * A series of type 8 is an expired stock future awaiting delivery: its serial is 0 and its strike word the delivery price. Its
+ * MTM is net x multiplier x (underlying price - delivery price), and at each point it adds net x multiplier x (projected price -
+ * underlying price). It takes no part in the futures spread or in the minimum.
+ *
  * All three memories are runs of 32-bit words, low byte first. Over arrays of uint32_t, mars_report_words does the same and
  * takes deposits of shares against short futures, and mars_reports does it for many batches in one call. mars_rewrite makes
  * of a batch the one with a record for each position, and mars_add_record the same with a record added.
@@ -58,9 +62,10 @@ uint64_t mars_report(const uint8_t *day, size_t day_len, const uint8_t *batch, s
  * day, batch   The files' words.
  * deposits     MARS_DEPOSIT_WORDS words a deposit, without kind bits: a class number and a number of shares, 0 to
  *              MARS_MOST_SHARES. A class is named once at the most; the order of the deposits does not matter.
- *              Shares / multiplier contracts, the remainder dropped, are taken from the class's net short futures in the
- *              ordinary book: from the largest on, among equals from the further expiry, each used up before the next. Which
- *              lines there are does not change.
+ *              Shares / multiplier contracts, the remainder dropped, are taken from the class's net short futures, open and
+ *              expired, in the ordinary book: from the largest on, among equals from the further expiry, where both agree from
+ *              the open one, then from the lower series place; each used up before the next. Which lines there are does not
+ *              change.
  * report       The report's words; words past them remain.
  * *_len        Lengths in words. Any length is allowed, zero too; with no deposits the call is mars_report over words.
  * Pointers     Not NULL, not even with length zero; aligned as a uint32_t. report overlaps nothing; the three that are read
@@ -195,7 +200,7 @@ enum mars_refusal {
     MARS_DVP_LIMIT = 31,        /* a position's DVP sum above that of a record; place: its first record, also with net 0 */
     MARS_NO_SPACE = 32,         /* with the record added there are more than 256 positions; place 0 */
     MARS_DEPOSIT = 50,          /* odd number of words (place 0, first); class unknown or named before, or too many shares */
-    MARS_UNLIKE_MULTIPLIERS = 51, /* the class's futures have unlike multipliers; place: deposit, here and above */
+    MARS_UNLIKE_MULTIPLIERS = 51, /* the class's futures, open and expired, have unlike multipliers; place: deposit, as above */
     MARS_SHORT_REPORT = 40,     /* report memory, or out, too short; the value is the words needed */
     MARS_ACCOUNT_LENGTHS = 60,  /* more than 64 accounts, or lengths that do not add up to the words given */
     MARS_SHORT_RESULTS = 61     /* result list shorter than two numbers an account */

@@ -31,11 +31,12 @@ done
 
 # calls at the edges, plain and with sanitizers where the compiler has them
 cc $strict -pthread test_calls.c "$library" -o "$out/test_calls"
-"$out/test_calls" ../samples/fail ../samples/spread || failed=1
+folders="../samples/fail ../samples/spread ../samples/expired"
+"$out/test_calls" $folders || failed=1
 echo 'int main(void) { return 0; }' >"$out/probe.c"
 if cc -fsanitize=address,undefined "$out/probe.c" -o "$out/probe" 2>/dev/null && "$out/probe"; then
     cc $strict -g -fsanitize=address,undefined -fno-sanitize-recover=all -pthread test_calls.c "$library" -o "$out/test_calls_sanitized"
-    "$out/test_calls_sanitized" ../samples/fail ../samples/spread || failed=1
+    "$out/test_calls_sanitized" $folders || failed=1
 else
     echo "host: no sanitizers, the plain run stands alone"
 fi

@@ -1,6 +1,6 @@
 /* Calls at the edges: unaligned and empty inputs, short memories, memories at the border of inaccessible pages, threads;
- * bad words of a batch by record and field; prices of a class in order and not; many accounts in one call; deposits; batches rewritten
- * and records added; printed texts read back. */
+ * bad words of a batch by record and field; prices of a class in order and not; many accounts in one call; deposits; an expired
+ * future; batches rewritten and records added; printed texts read back. */
 #define _DEFAULT_SOURCE
 #include "mars.h"
 
@@ -390,6 +390,52 @@ static void deposits(const char *folder) {
     free(batch_file.bytes);
 }
 
+/* Ten expired futures sold, at multiplier 100: each has an MTM of 50 euro and adds another 50 at upside 5. */
+static void expired_future(const char *folder) {
+    static uint32_t report[MARS_REPORT_BYTES / 4];
+    const uint8_t *read = (const uint8_t *)report;
+    struct file day_file = read_file(folder, "day.w32"), batch_file = read_file(folder, "pos.w32");
+    struct words d = {words_of(day_file), day_file.length / 4}, b = {words_of(batch_file), batch_file.length / 4};
+    uint32_t list[MARS_DEPOSIT_WORDS] = {0, 0};
+    struct words one = {list, MARS_DEPOSIT_WORDS};
+
+    /* shares, and the margin in euro: 0, 0, 4, 9 and 10 contracts are covered */
+    static const uint32_t covers[][2] = {{0, 1000}, {99, 1000}, {450, 600}, {999, 100}, {1000, 0}};
+    for (size_t i = 0; i < sizeof covers / sizeof covers[0]; i++) {
+        int64_t margin = 10000 * (int64_t)covers[i][1];
+        list[1] = covers[i][0];
+        check(deposited(d, b, one, report, 32, "expired") == 32, "expired: result", i);
+        check(mars_line_amount(read, 0, MARS_MTM) == margin / 2, "expired: MTM", i);
+        check(mars_line_amount(read, 0, MARS_REQUIREMENT) == margin / 2, "expired: requirement", i);
+        check(mars_total(read, MARS_ACCOUNT) == margin, "expired: margin", i);
+    }
+
+    /* a serial, types 7 and 9, an adjustment; a record that is exercised, a fail, has a DVP amount */
+    static const struct {
+        int in_batch;
+        size_t at;
+        uint32_t bits, number;
+    } bad[] = {
+        {0, 21, 1, MARS_SERIES_TYPE},
+        {0, 21, (8u ^ 7u) << 19, MARS_SERIES_TYPE},
+        {0, 21, (8u ^ 9u) << 19, MARS_SERIES_TYPE},
+        {0, 21 + 4, 1, MARS_SERIES_TYPE},
+        {1, 1 + MARS_KEY, 1u << 8, MARS_POSITION_EXERCISE},
+        {1, 1 + MARS_KEY, 1u << 9, MARS_POSITION_FAIL},
+        {1, 1 + MARS_DVP_LOW, 1, MARS_POSITION_DVP},
+    };
+    for (size_t i = 0; i < sizeof bad / sizeof bad[0]; i++) {
+        uint32_t *word = (bad[i].in_batch ? b : d).at + bad[i].at;
+        *word ^= bad[i].bits;
+        check(deposited(d, b, one, report, 32, "expired: refused") == refusal(bad[i].number, 0), "expired: refused", i);
+        *word ^= bad[i].bits;
+    }
+    free(d.at);
+    free(b.at);
+    free(day_file.bytes);
+    free(batch_file.bytes);
+}
+
 /* ---- batches rewritten, records added */
 
 #define LONGEST_BATCH (MARS_BATCH_BYTES / 4)
@@ -652,10 +698,10 @@ static void price_order(void) {
     check(with_price(1, prices[15]) == expected_result && with_price(1, prices[15] + 1) == refused, "price order: upside 1", 1);
 }
 
-/* The arguments are the folders of the samples `fail` and `spread`. */
+/* The arguments are the folders of the samples `fail`, `spread` and `expired`. */
 int main(int argc, char **argv) {
-    if (argc != 3) {
-        fprintf(stderr, "usage: %s FAIL SPREAD\n", argv[0]);
+    if (argc != 4) {
+        fprintf(stderr, "usage: %s FAIL SPREAD EXPIRED\n", argv[0]);
         return 2;
     }
     day = read_file(argv[1], "day.w32");
@@ -672,6 +718,7 @@ int main(int argc, char **argv) {
     threads();
     accounts();
     deposits(argv[2]);
+    expired_future(argv[3]);
     rewritings();
     texts();
     free(day.bytes);
