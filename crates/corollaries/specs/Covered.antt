@@ -36,7 +36,7 @@ abbrev pub class_short : List ℕ → (ℕ → ℤ) → ℕ → ℕ
 class_short d n c = sum_n_where (series_count d) (coverable_of d c) (short_of d n)
 
 -- the net shorts of two series are equal, and their expiries
-pub record Alike (d : List ℕ) (n : ℕ → ℤ) (s t : ℕ) : Type 0 where
+pub record Tied (d : List ℕ) (n : ℕ → ℤ) (s t : ℕ) : Type 0 where
   pub size : short_of d n s ≡ short_of d n t
   pub month : expiry d s ≡ expiry d t
 
@@ -62,8 +62,8 @@ pub record Covered : Type 0 where
       → future_of d c s ≡ true → future_of d c t ≡ true
       → goes_before d n t s ≡ (ltb (short_of d n s) (short_of d n t) || (eqb (short_of d n t) (short_of d n s) && ltb (expiry d s) (expiry d t)))
   -- "where both agree, the open one goes first, then the lower series place" (U9)
-  pub open_first : (d : List ℕ) (n : ℕ → ℤ) (s t : ℕ) → Alike d n s t → is_future (series_type d s) ≡ true → is_future (series_type d t) ≡ false → goes_before d n s t ≡ true
-  pub lower_first : (d : List ℕ) (n : ℕ → ℤ) (s t : ℕ) → Alike d n s t → is_future (series_type d s) ≡ is_future (series_type d t) → goes_before d n s t ≡ ltb s t
+  pub open_first : (d : List ℕ) (n : ℕ → ℤ) (s t : ℕ) → Tied d n s t → is_future (series_type d s) ≡ true → is_future (series_type d t) ≡ false → goes_before d n s t ≡ true
+  pub lower_first : (d : List ℕ) (n : ℕ → ℤ) (s t : ℕ) → Tied d n s t → is_future (series_type d s) ≡ is_future (series_type d t) → goes_before d n s t ≡ ltb s t
   -- row 51: the futures of a class that it passes, open and expired, have one multiplier
   pub one_multiplier : (d : List ℕ) (c s t : ℕ) → unlike d c ≡ false → s < series_count d → t < series_count d
       → coverable_of d c s ≡ true → coverable_of d c t ≡ true → multiplier d s ≡ multiplier d t
@@ -236,7 +236,7 @@ by_size_and_expiry d n c s t r hc hs ht fs ft =
     place_off (no h) (no l) = off (le-ltb t s (omega arith))
 
 -- series s and t with equal net shorts and expiries
-module _ (d : List ℕ) (n : ℕ → ℤ) (s t : ℕ) (a : Alike d n s t) where
+module _ (d : List ℕ) (n : ℕ → ℤ) (s t : ℕ) (a : Tied d n s t) where
   by_rank : goes_before d n s t ≡ larger_then (open_rank d) by_place s t
   unfolding goes_before
   by_rank =
