@@ -1,2 +1,1 @@
-pub mod Netted
 pub mod Stages

@@ -9,17 +9,13 @@ ghost use Rattle.model.specs.RewritingChecks.{rewriting_check};
 ghost use Rattle.model.proofs.Accepted.{RecordRows};
 ghost use Rattle.position_records.specs.Places.{Within};
 
-use batch::{MOST_RECORDS, PLACES, RECORD_WORDS};
+use batch::{MOST_RECORDS, RECORD_WORDS};
+use checked_nets::net_checked;
 use classes::day::CheckedDay;
-use dvp_check::check_dvps;
 use model::{Check, NettingFault};
-use net_check::check_nets;
-use netting::{LimitedBatch, POSITIONS, net_positions};
+use netting::{LimitedBatch, POSITIONS};
 use position_records::Positions;
 use rows::check_room;
-
-// The positions of a series: open and exercised or assigned, in each book.
-const SERIES_POSITIONS: usize = POSITIONS / PLACES;
 
 // Row 40, or the records of the `count` positions held.
 fn write_in_room(
@@ -49,15 +45,9 @@ pub fn rewrite_checked(
 {
     let mut nets = [0i64; POSITIONS];
     let mut dvps = [0i64; POSITIONS];
-    net_positions(batch, &mut nets, &mut dvps);
-    check_nets(day.words, batch, &nets)?;
-    let positions = Positions {
-        nets: &nets,
-        dvps: &dvps,
-        places: SERIES_POSITIONS * day.series_count(),
-    };
+    net_checked(day, batch, &mut nets, &mut dvps)?;
+    let positions = Positions::new(&nets, &dvps, day.series_count());
     let count = positions.count_held();
-    check_dvps(batch, &dvps)?;
     if MOST_RECORDS < count {
         return Err(Check::Netting(NettingFault::NoSpace, 0));
     }

@@ -1,7 +1,7 @@
 // A day file that passed its checks.
 ghost use Rattle.std.specs.Prelude.{◌≡◌, Ok, ◌+◌, ◌≤◌, ◌<◌};
 ghost use Rattle.model.specs.DayChecks.{day_check};
-ghost use Rattle.model.specs.DayFile.{class_count, series_count};
+ghost use Rattle.model.specs.DayFile.{class_count, series_count, class_with, series_class};
 ghost use Rattle.classes.specs.Checked.{Checked};
 ghost use Rattle.classes.specs.Range.{start_of};
 ghost use Rattle.classes.specs.Starts.{start_table};
@@ -52,6 +52,22 @@ impl CheckedDay<'_> {
         ensures { (result.day.now ≡ self.now.words.now) × (result.place ≡ s) }
     {
         Series::new(self.words, s)
+    }
+
+    // The class with number n.
+    pub fn class_with(&self, n: usize) -> Option<usize>
+        ensures { result ≡ class_with self.now.words.now n }
+    {
+        (0..self.class_count()).find(|&c| self.class(c).number() == n)
+    }
+
+    // The class of series s.
+    pub fn class_of(&self, s: usize) -> usize
+        requires { s < series_count self.now.words.now }
+        ensures { (result ≡ series_class self.now.words.now s) × (result < class_count self.now.words.now) }
+    {
+        self.class_with(self.series(s).class_number())
+            .unwrap_or(self.class_count())
     }
 
     // The places of the series of class c.

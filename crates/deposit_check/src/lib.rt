@@ -11,7 +11,7 @@ ghost use Rattle.model.specs.Steps.Cover.{coverable_of};
 ghost use Rattle.deposit_check.specs.Unlike.{differing};
 
 use classes::day::CheckedDay;
-use deposits::{DEPOSIT_WORDS, Deposit, class_with, deposit_count};
+use deposits::{DEPOSIT_WORDS, Deposit, deposit_count};
 use model::{Check, NettingFault};
 use rows::check_records;
 
@@ -39,7 +39,7 @@ fn named_before(deposit: &Deposit) -> bool
 fn bad_deposit(day: &CheckedDay<'_>, deposit: &Deposit) -> bool
     ensures { result ≡ row50 day.now.words.now deposit.now.deposits.now deposit.now.index }
 {
-    class_with(day.words, deposit.number()).is_none()
+    day.class_with(deposit.number()).is_none()
         || named_before(deposit)
         || SHARES_LIMIT < deposit.shares()
 }
@@ -85,7 +85,7 @@ fn unlike(day: &CheckedDay<'_>, c: usize) -> bool
 fn unlike_class(day: &CheckedDay<'_>, deposit: &Deposit) -> bool
     ensures { result ≡ row51 day.now.words.now deposit.now.deposits.now deposit.now.index }
 {
-    match class_with(day.words, deposit.number()) {
+    match day.class_with(deposit.number()) {
         Some(c) => unlike(day, c),
         None => false,
     }

@@ -1,12 +1,8 @@
-// The deposits' fields, and the class that a deposit names.
+// The deposits' fields.
 #![tactic(auto)]
 
 ghost use Rattle.std.specs.Prelude.{◌≡◌, ◌<◌};
-ghost use Rattle.model.specs.DayFile.{class_with};
 ghost use Rattle.model.specs.Deposits.{deposit_count, named_number, shares as shares_of};
-ghost use Rattle.classes.specs.Tables.{Day};
-
-use day_file::{Class, class_count};
 
 // The words of a deposit.
 pub const DEPOSIT_WORDS: usize = 2;
@@ -48,12 +44,4 @@ impl<'a> Deposit<'a> {
     {
         self.deposits[DEPOSIT_WORDS * self.index + 1]
     }
-}
-
-// The class with number n.
-pub fn class_with(day: &[u32], n: usize) -> Option<usize>
-    requires { Day day.now }
-    ensures { result ≡ class_with day.now n }
-{
-    (0..class_count(day)).find(|&c| Class::new(day, c).number() == n)
 }

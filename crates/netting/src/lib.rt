@@ -37,7 +37,7 @@ impl LimitedBatch<'_> {
 }
 
 // What a record adds to the net of its position: short − long.
-fn change(r: &Record) -> i64
+pub fn change(r: &Record) -> i64
     ensures { result ≡ pos (short r.now.batch.now r.now.index) -ℤ pos (long r.now.batch.now r.now.index) }
 {
     i64::from(r.short()) - i64::from(r.long())

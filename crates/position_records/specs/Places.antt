@@ -1,12 +1,12 @@
 -- What a loop over the places of the order counts and writes. n and v are the nets and DVPs, m the memory.
-use Rattle.std.specs.Prelude.{◌≡◌, refl, true, false, List, [], ◌∷◌, ◌++◌, ℕ, ◌+◌, ◌*◌, ◌≤◌, ◌<◌, ℤ, nat_abs, length, drop, set}
+use Rattle.std.specs.Prelude.{◌≡◌, refl, true, false, List, [], ◌∷◌, ◌++◌, ℕ, ◌+◌, ◌*◌, ◌/◌, ◌≤◌, ◌<◌, ℤ, nat_abs, length, drop, set}
 use Rattle.std.proofs.Common.{sym, ap, ◌∙◌, arith, append-nil, length-append}
 use Rattle.numbers.specs.Put.{put, put-none, put-put, put_head}
 use Rattle.numbers.specs.Chosen.{joined, joined-append, joined_length, chosen, chosen_none, chosen_yes, chosen_no, chosen-each, chosen_grows}
 use Rattle.model.specs.Limits.{quantity_limit, dvp_amount_limit}
 use Rattle.model.specs.Words.{word}
 use Rattle.model.specs.Batch.{record_words, batch_words}
-use Rattle.model.specs.Netting.{position_count}
+use Rattle.model.specs.Netting.{places, position_count}
 use Rattle.model.specs.Rewriting.{held_records, rewritten}
 use Rattle.model.proofs.HeldRecords.{held_at, record_at_place, held_most, rewritten_length}
 
@@ -14,6 +14,10 @@ use Rattle.model.proofs.HeldRecords.{held_at, record_at_place, held_most, rewrit
 pub record Within (n v : ℕ → ℤ) : Type 0 where
   pub nets : (p : ℕ) → p < position_count → nat_abs (n p) ≤ quantity_limit
   pub dvps : (p : ℕ) → p < position_count → nat_abs (v p) ≤ dvp_amount_limit
+
+-- the positions of a series, next to each other in the order
+abbrev pub series_positions : ℕ
+series_positions = position_count / places
 
 module _ (n v : ℕ → ℤ) where
   -- the records of the first i places

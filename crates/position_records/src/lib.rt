@@ -1,25 +1,28 @@
 // The records of the positions held, written from tables of nets and DVPs: one for each, in their order.
 #![tactic(auto)]
 
-ghost use Rattle.std.specs.Prelude.{◌≡◌, ◌≤◌, ◌<◌, ◌^◌, ◌++◌, nat_abs, length, drop};
+ghost use Rattle.std.specs.Prelude.{◌≡◌, ◌*◌, ◌≤◌, ◌<◌, ◌^◌, ◌++◌, nat_abs, length, drop};
 ghost use Rattle.numbers.specs.Table.{entry};
 ghost use Rattle.model.specs.Limits.{quantity_limit};
 ghost use Rattle.model.specs.Batch.{position_record};
 ghost use Rattle.model.specs.Netting.{position_count};
 ghost use Rattle.model.specs.Rewriting.{in_order, long_of, short_of, held_records, rewritten};
 ghost use Rattle.model.proofs.HeldRecords.{held_at, record_at_place};
-ghost use Rattle.position_records.specs.Places.{Within, records_to};
+ghost use Rattle.position_records.specs.Places.{Within, series_positions, records_to};
 
 use batch::{PLACES, RECORD_WORDS};
 use positions::amount_at;
 use words::{Kind, high_word, low_word, middle_word, word};
+
+// The positions of a series: open and exercised or assigned, in each book.
+const SERIES_POSITIONS: usize = 4;
 
 // The key of the position at place i of the order: by series place, then open before exercised, then ordinary before fail.
 fn key_at(i: usize) -> usize
     requires { i < position_count }
     ensures { result ≡ in_order i }
 {
-    i / 4 + PLACES * (i / 2 % 2) + 2 * PLACES * (i % 2)
+    i / SERIES_POSITIONS + PLACES * (i / 2 % 2) + 2 * PLACES * (i % 2)
 }
 
 // The quantities of a net: one of them is 0.
@@ -67,6 +70,21 @@ pub struct Positions<'a> {
     pub places: usize,
     pub ghost places_bound: { places ≤ position_count },
     pub ghost all_held: { held_records (entry nets.now) (entry dvps.now) ≡ records_to (entry nets.now) (entry dvps.now) places },
+}
+
+impl<'a> Positions<'a> {
+    // Those of tables in which no position past the day file's series is held.
+    pub fn new(nets: &'a [i64], dvps: &'a [i64], series: usize) -> Self
+        requires series_bound { series_positions * series ≤ position_count }
+        requires all_held { held_records (entry nets.now) (entry dvps.now) ≡ records_to (entry nets.now) (entry dvps.now) (series_positions * series) }
+        ensures { (result.nets.now ≡ nets.now) × (result.dvps.now ≡ dvps.now) }
+    {
+        Positions {
+            nets,
+            dvps,
+            places: SERIES_POSITIONS * series,
+        }
+    }
 }
 
 impl Positions<'_> {

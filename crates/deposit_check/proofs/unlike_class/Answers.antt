@@ -11,9 +11,6 @@ use Rattle.deposit_check.proofs.unlike_class.Goals as goal
 inside : (d : List ℕ) (n : ℕ) {c : ℕ} → Some c ≡ class_with d n → c < class_count d
 inside d n {c = c} q = (first_at (λ k. eqb (class_number d k) n) (class_count d) c (sym q)).0
 
-pub class_with-requires : goal.class_with-requires
-class_with-requires c = checked_day c.args.day.now.words.now c.args.day.now.checked
-
 pub unlike-requires : goal.unlike-requires
 unlike-requires c = inside c.args.day.now.words.now c.number.result c.in-Some.ensures
 

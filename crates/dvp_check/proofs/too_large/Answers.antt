@@ -15,4 +15,5 @@ returns c =
     let b = c.args.batch.now.words.now in
     let v = c.record.ensures in
     let key_is = rw (v.0, v.1) at c.key-k.ensures in
-    ap (ltb dvp_amount_limit) (c.unsigned_abs.ensures.value ∙ ap nat_abs (dvp_read b c.args.dvps.now c.key-k.result c.args.r c.args.batch.now.limited c.requires.dvps_value key_is))
+    c.dvp_too_large.ensures
+    ∙ ap (λ z. ltb dvp_amount_limit (nat_abs z)) (dvp_read b c.args.dvps.now c.key-k.result c.args.r c.args.batch.now.limited c.requires.dvps_value key_is)

@@ -1,8 +1,10 @@
--- The tables of a batch's nets and DVPs in place of the batch: which places are held, and that records can hold them.
-use Rattle.std.specs.Prelude.{◌≡◌, false, ◌||◌, List, ℕ, ◌*◌, ◌≤◌, ◌<◌, ℤ, Ok}
+-- Rows 30 and 31; and the tables of a batch's nets and DVPs in place of the batch: which places are held, and that records can hold them.
+use Rattle.std.specs.Prelude.{◌≡◌, false, ◌||◌, List, [], ◌∷◌, ℕ, ◌*◌, ◌≤◌, ◌<◌, ℤ, Ok}
 use Rattle.std.proofs.Common.{ap, ◌∙◌, arith, ⊎_elim}
 use Rattle.numbers.specs.Chosen.{chosen_rest}
 use Rattle.numbers.specs.Table.{tabulate, entry, entry_tabulate}
+use Rattle.model.specs.Outcomes.{Verdict}
+use Rattle.model.specs.Rows.{tried}
 use Rattle.model.specs.DayFile.{series_count}
 use Rattle.model.specs.Netting.{position_count, net, dvp, netting_check}
 use Rattle.model.specs.Steps.Positions.{not_zero}
@@ -13,7 +15,11 @@ use Rattle.model.proofs.HeldRecords.{held_at, record_at_place}
 use Rattle.model.proofs.Limits.{place_limit}
 use Rattle.model.proofs.NettingRows.{net_within, dvp_within}
 use Rattle.model.proofs.Nets.{few_series, record_or_none, none_outside}
-use Rattle.position_records.specs.Places.{Within, records_to}
+use Rattle.position_records.specs.Places.{Within, series_positions, records_to}
+
+-- rows 30 and 31: the sums that a record can hold
+unfoldable pub sums_check : List ℕ → List ℕ → Verdict
+sums_check d b = tried (netting_check d b ∷ dvp_check b ∷ [])
 
 -- a table of a batch's positions is its family
 module _ (b : List ℕ) where
@@ -26,7 +32,7 @@ module _ (b : List ℕ) where
 module _ (d b : List ℕ) (days : DayRows d) (rows : RecordRows d b) where
   -- the places of the day file's series
   abbrev pub day_places : ℕ
-  day_places = 4 * series_count d
+  day_places = series_positions * series_count d
 
   pub places_most : day_places ≤ position_count
   places_most = omega (arith, few_series d days)
