@@ -1,5 +1,6 @@
 //! The same work in straight 64-bit Rust: the baseline of the benchmark. Its answers are held to the reckoner's in the tests.
-//! The checks that its calls share are marked to be inlined into each: compiled once for all they cost the report some hundredths more.
+//! The checks and the line that its calls share are marked to be inlined into each: compiled once for all they cost the report some hundredths
+//! more.
 use crate::layout::{
     class_at, series_at, CLASS_WORDS, LONGEST_BATCH, LONGEST_DAY, MOST_RECORDS, OFFSET, PROJECTED, SERIES_WORDS, UNDERLYING,
     WHOLE_OFFSET,
@@ -254,6 +255,19 @@ pub fn net_pairs(batch: &[u32], table: &mut [[i64; 2]; NETS]) {
 /// Where the series of each class begin, and where all end.
 type Starts = [usize; 65];
 
+#[inline]
+fn starts_of(day: &Day) -> Starts {
+    let mut starts: Starts = [day.series; 65];
+    let mut s = 0;
+    for c in 0..day.classes {
+        while s < day.series && day.one(s, 0) >> 23 < day.number(c) {
+            s += 1;
+        }
+        starts[c] = s;
+    }
+    starts
+}
+
 /// Rows 50 and 51.
 fn check_deposits(day: &Day, starts: &Starts, deposits: &[u32]) -> Option<Refused> {
     if deposits.len() % 2 != 0 {
@@ -314,6 +328,7 @@ struct Sums {
     points: [i64; 10],
 }
 
+#[inline]
 fn class_sums(day: &Day, nets: &[i64; NETS], dvps: &[i64; NETS], book: usize, c: usize, range: std::ops::Range<usize>) -> Sums {
     let price = |i: usize| i64::from(day.class(c, i));
     let net = |s: usize| nets[s + 512 * book];
@@ -384,6 +399,24 @@ fn class_sums(day: &Day, nets: &[i64; NETS], dvps: &[i64; NETS], book: usize, c:
     sums
 }
 
+/// The six amounts of a group's line in a book.
+#[inline]
+fn line(day: &Day, starts: &Starts, nets: &[i64; NETS], dvps: &[i64; NETS], book: usize, group: u32) -> [i64; 6] {
+    let mut sums = Sums::default();
+    for c in (0..day.classes).filter(|&c| day.class(c, 0) & 31 == group) {
+        let more = class_sums(day, nets, dvps, book, c, starts[c]..starts[c + 1]);
+        sums.spread += more.spread;
+        sums.mtm += more.mtm;
+        sums.premium += more.premium;
+        sums.minimum += more.minimum;
+        (0..10).for_each(|k| sums.points[k] += more.points[k]);
+    }
+    let additional = sums.points.iter().copied().fold(0, i64::max);
+    let requirement = additional.max(sums.minimum);
+    let sum = sums.spread + sums.mtm + sums.premium + requirement;
+    [sums.spread, sums.mtm, sums.premium, requirement, sum.max(0), (-sum).max(0)]
+}
+
 fn put_amount(out: &mut [u32], z: i64) {
     let size = z.unsigned_abs();
     out[0] = 5 << 29 | u32::from(z < 0) << 28 | (size >> 58) as u32;
@@ -420,6 +453,11 @@ fn record_count(batch: &[u32]) -> Result<usize, Refused> {
     Ok(records)
 }
 
+/// Row 30 of a position with this net.
+fn too_large(day: &Day, k: usize, net: i64) -> bool {
+    net.abs() * i64::from(day.one(k & 255, 1)) > 10_000_000
+}
+
 /// Rows 22 to 30 over so many records; the tables, zeros before, get the nets and DVPs.
 #[inline]
 fn check_and_net(
@@ -433,7 +471,7 @@ fn check_and_net(
     net(batch, nets, dvps);
     for r in 0..records {
         let k = (batch[1 + 6 * r] & 1023) as usize;
-        if nets[k].abs() * i64::from(day.one(k & 255, 1)) > 10_000_000 {
+        if too_large(day, k, nets[k]) {
             return Err((30, r));
         }
     }
@@ -443,18 +481,11 @@ fn check_and_net(
 /// The report's length, or the refusal.
 fn report(day: &[u32], batch: &[u32], deposits: &[u32], memory: &mut [u32]) -> Result<usize, Refused> {
     let day = read_day(day)?;
-    let (classes, series) = (day.classes, day.series);
+    let classes = day.classes;
     let records = record_count(batch)?;
     let (mut nets, mut dvps) = ([0i64; NETS], [0i64; NETS]);
     check_and_net(&day, batch, records, &mut nets, &mut dvps)?;
-    let mut starts: Starts = [series; 65];
-    let mut s = 0;
-    for c in 0..classes {
-        while s < series && day.one(s, 0) >> 23 < day.number(c) {
-            s += 1;
-        }
-        starts[c] = s;
-    }
+    let starts = starts_of(&day);
     pass(check_deposits(&day, &starts, deposits))?;
     let mut maps = [0u32; 2];
     for (book, map) in maps.iter_mut().enumerate() {
@@ -481,24 +512,12 @@ fn report(day: &[u32], batch: &[u32], deposits: &[u32], memory: &mut [u32]) -> R
     let mut totals = [0i64; 3];
     for (book, map) in maps.iter().enumerate() {
         for g in (0..29).filter(|g| map >> g & 1 == 1) {
-            let mut sums = Sums::default();
-            for c in (0..classes).filter(|&c| day.class(c, 0) & 31 == g) {
-                let more = class_sums(&day, &nets, &dvps, book, c, starts[c]..starts[c + 1]);
-                sums.spread += more.spread;
-                sums.mtm += more.mtm;
-                sums.premium += more.premium;
-                sums.minimum += more.minimum;
-                (0..10).for_each(|k| sums.points[k] += more.points[k]);
-            }
-            let additional = sums.points.iter().copied().fold(0, i64::max);
-            let requirement = additional.max(sums.minimum);
-            let sum = sums.spread + sums.mtm + sums.premium + requirement;
+            let amounts = line(&day, &starts, &nets, &dvps, book, g);
             memory[at] = 2 << 29 | (book as u32) << 5 | g;
-            let amounts = [sums.spread, sums.mtm, sums.premium, requirement, sum.max(0), (-sum).max(0)];
             for (i, z) in amounts.into_iter().enumerate() {
                 put_amount(&mut memory[at + 1 + 3 * i..], z);
             }
-            totals[book] += sum.max(0);
+            totals[book] += amounts[4];
             at += 19;
         }
     }

@@ -6,7 +6,7 @@ use harness::deposits::{deposits, mixed_case};
 use harness::layout::MOST_RECORDS;
 use harness::positions::traded;
 use harness::reckoner::{Refusal, MOST_DVP};
-use harness::records::{batch_of, dvp, is_held, net, records_of};
+use harness::records::{batch_of, dvp, is_held, net, records_of, sums};
 use harness::rng::Rng;
 use harness::unit;
 use std::collections::BTreeMap;
@@ -23,16 +23,6 @@ fn with_batch(a: &Account, batch: Vec<u32>) -> Account {
 /// A memory lent with any words in it.
 fn lent(rng: &mut Rng, room: usize) -> Vec<u32> {
     (0..room).map(|_| rng.next() as u32).collect()
-}
-
-/// Net and DVP sum of each position that is held, in the order of the request: series place, open before exercised, ordinary before fail.
-fn sums(records: &[[u32; 6]]) -> Vec<((u32, u32, u32), i128, i128)> {
-    let mut out: BTreeMap<(u32, u32, u32), (i128, i128)> = BTreeMap::new();
-    for r in records {
-        let sum = out.entry((r[0] & 255, r[0] >> 8 & 1, r[0] >> 9 & 1)).or_default();
-        *sum = (sum.0 + net(r), sum.1 + dvp(r));
-    }
-    out.into_iter().filter(|(_, sum)| *sum != (0, 0)).map(|(key, (net, dvp))| (key, net, dvp)).collect()
 }
 
 /// The sorts of records among those of a rewriting.

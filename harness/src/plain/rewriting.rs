@@ -2,16 +2,29 @@
 use super::{check_and_net, packed, put_amount, read_day, record_count, Day, Refused, MOST_DVP, NETS};
 use crate::layout::{LONGEST_BATCH, MOST_RECORDS};
 
-/// Rows 22 to 40 over so many records, one more than a batch has at the most; the length of the rewriting, which is written.
-fn rewritten(day: &Day, batch: &[u32], records: usize, out: &mut [u32]) -> Result<usize, Refused> {
-    let (mut nets, mut dvps) = ([0i64; NETS], [0i64; NETS]);
-    check_and_net(day, batch, records, &mut nets, &mut dvps)?;
+/// Rows 22 to 31 over so many records; the tables, zeros before, get the nets and DVPs.
+#[inline]
+pub(super) fn check_and_net_within(
+    day: &Day,
+    batch: &[u32],
+    records: usize,
+    nets: &mut [i64; NETS],
+    dvps: &mut [i64; NETS],
+) -> Result<(), Refused> {
+    check_and_net(day, batch, records, nets, dvps)?;
     for r in 0..records {
         let k = (batch[1 + 6 * r] & 1023) as usize;
         if dvps[k].abs() > MOST_DVP {
             return Err((31, r));
         }
     }
+    Ok(())
+}
+
+/// Rows 22 to 40 over so many records, one more than a batch has at the most; the length of the rewriting, which is written.
+fn rewritten(day: &Day, batch: &[u32], records: usize, out: &mut [u32]) -> Result<usize, Refused> {
+    let (mut nets, mut dvps) = ([0i64; NETS], [0i64; NETS]);
+    check_and_net_within(day, batch, records, &mut nets, &mut dvps)?;
     let (mut held, mut count) = ([0; MOST_RECORDS + 1], 0);
     for s in 0..day.series {
         // open, exercised, fail: no series has the last two
