@@ -8,7 +8,7 @@ use Rattle.model.specs.declared.ClassFault.TheVariants.{ClassOrder, OffsetDiffer
 use Rattle.model.specs.declared.SeriesFault.TheVariants.{ClassAbsent, SeriesOrder, BadType}
 use Rattle.model.specs.declared.BatchWordsFault.TheVariants.{WrongKind, OutOfRange, MinusZero}
 use Rattle.model.specs.declared.PositionFault.TheVariants.{SeriesAbsent, ExercisedNonOption, FailNonSecurity, DvpNonSecurity}
-use Rattle.model.specs.declared.NettingFault.TheVariants.{NetTooLarge, DvpTooLarge, NoSpace, BadDeposit, UnlikeMultipliers}
+use Rattle.model.specs.declared.NettingFault.TheVariants.{NetTooLarge, DvpTooLarge, NoSpace, BadDeposit, UnlikeMultipliers, BadTrades}
 use Rattle.model.specs.declared.AccountsFault.TheVariants.{BadLengths, ShortResults}
 use Rattle.model.specs.Answers.{number_of}
 
@@ -38,6 +38,7 @@ numbered (Netting DvpTooLarge p) = (omega arith, omega arith)
 numbered (Netting NoSpace p) = (omega arith, omega arith)
 numbered (Netting BadDeposit p) = (omega arith, omega arith)
 numbered (Netting UnlikeMultipliers p) = (omega arith, omega arith)
+numbered (Netting BadTrades p) = (omega arith, omega arith)
 numbered (Check.Report f p) = (omega arith, omega arith)
 numbered (Accounts BadLengths p) = (omega arith, omega arith)
 numbered (Accounts ShortResults p) = (omega arith, omega arith)

@@ -1,4 +1,4 @@
--- The definitions against worked figures, in one place: M1 to M9, the accounts on which seen mistakes show, what none of these shows, a refusal of each row, the call for many accounts, the short option adjustment, deposits, offsets, projected prices out of order, and expired futures.
+-- The definitions against worked figures, in one place: M1 to M9, the accounts on which seen mistakes show, what none of these shows, a refusal of each row, the call for many accounts, the short option adjustment, deposits, offsets, projected prices out of order, expired futures, and the worst moment of a day.
 use mathlib.Core.Path.{◌≡◌}
 use Rattle.model.specs.Accounts.{all_computed, all_published}
 use Rattle.model.specs.Figures.{figures, figures_agree}
@@ -11,6 +11,7 @@ use Rattle.model.specs.DepositFigures.{lodged, lodged_agree}
 use Rattle.model.specs.OffsetFigures.{offset_figures, offset-figures_agree}
 use Rattle.model.specs.ProjectedFigures.{projected_figures, projected-figures_agree}
 use Rattle.model.specs.ExpiredFigures.{expired_rows, expired-rows_agree}
+use Rattle.model.specs.WorstMomentFigures.{worst_moments, worst-moments_agree}
 
 pub record Agreement : Type 0 where
   pub scope : all_computed figures ≡ all_published figures
@@ -23,6 +24,7 @@ pub record Agreement : Type 0 where
   pub offset : all_computed offset_figures ≡ all_published offset_figures
   pub projected : all_computed projected_figures ≡ all_published projected_figures
   pub expired : all_computed expired_rows ≡ all_published expired_rows
+  pub worst : all_computed worst_moments ≡ all_published worst_moments
 
 pub agreement : Agreement
 agreement =
@@ -37,4 +39,5 @@ agreement =
       offset = offset-figures_agree;
       projected = projected-figures_agree;
       expired = expired-rows_agree;
+      worst = worst-moments_agree;
     }

@@ -45,6 +45,12 @@ module _ (d : List ℕ) (r : DayRows d) where
         first_clear (bad_class_word d c) class_words
         (nothing_hit (first_bad (bad_class_word d c) class_words) (or_left (is_some (first_bad (bad_class_word d c) class_words)) (leb group_count (group d c)) class_good))
 
+    pub group_limit : group d c < group_count
+    unfolding bad_class
+    group_limit =
+        leb-false group_count (group d c)
+        (or_right (is_some (first_bad (bad_class_word d c) class_words)) (leb group_count (group d c)) class_good)
+
     pub class_price : (i : ℕ) → i < class_words → i ≢ 0 → i ≢ 9 → payload (class_word d c i) ≤ price_limit
     unfolding bad_class_word
     class_price i p q o = within (class_word d c i) 3 price_limit (rw (ne_eqb i 0 q, ne_eqb i 9 o) at (class_word_lem i p))

@@ -78,7 +78,7 @@ dvp_order b₁ b₂ p = fun_ext (λ q. dvp-sum b₁ q ∙ sum-perm (dvp_of q) (r
 pub key-place : (q k x s : ℕ) → s < places → x < 2 → bits q 0 10 ≡ position k x s → bits q 0 8 ≡ s
 key-place q k x s hs hx e = omega arith
 
-key-fail : (q k x s : ℕ) → s < places → x < 2 → k < 2 → bits q 0 10 ≡ position k x s → bits q 9 1 ≡ k
+pub key-fail : (q k x s : ℕ) → s < places → x < 2 → k < 2 → bits q 0 10 ≡ position k x s → bits q 9 1 ≡ k
 key-fail q k x s hs hx hk e = omega arith
 
 module _ (d : List ℕ) (g k : ℕ) (s x h : ℕ) (hs : s < places) (hx : x < 2) (hh : h < 2) (other : series_group d s ≡ g → h ≡ k → ⊥) where

@@ -22,7 +22,7 @@ use Rattle.model.specs.declared.BatchLengthFault.TheVariants.{BadBatchLength}
 use Rattle.model.specs.declared.BatchWordsFault.{BatchWordsFault}
 use Rattle.model.specs.declared.BatchWordsFault.TheVariants.{WrongKind, OutOfRange, MinusZero}
 use Rattle.model.specs.declared.PositionFault.TheVariants.{SeriesAbsent, ExercisedNonOption, FailNonSecurity, DvpNonSecurity}
-use Rattle.model.specs.declared.NettingFault.TheVariants.{NetTooLarge, DvpTooLarge, NoSpace, BadDeposit, UnlikeMultipliers}
+use Rattle.model.specs.declared.NettingFault.TheVariants.{NetTooLarge, DvpTooLarge, NoSpace, BadDeposit, UnlikeMultipliers, BadTrades}
 use Rattle.model.specs.declared.ReportFault.TheVariants.{TooShort}
 use Rattle.model.specs.declared.AccountsFault.TheVariants.{BadLengths, ShortResults}
 use Rattle.model.specs.Outcomes.{Verdict}
@@ -39,6 +39,8 @@ use Rattle.model.specs.Calls.{verdict, answer, answer_of, room_answer, outcome, 
 use Rattle.model.specs.Rewriting.{rewriting, added}
 use Rattle.model.specs.RewritingChecks.{row31, row32, dvp_check, space_check, rewriting_check, rewrite_check, added_row21, add_check}
 use Rattle.model.specs.RewritingCalls.{rewrite_answer, add_answer}
+use Rattle.model.specs.declared.Moment.{Moment}
+use Rattle.model.specs.WorstMoment.{row62, worst_check, moment, moment_answer, worst_answer, value_0}
 use Rattle.model.specs.Bytes.{words_of, row1, row2, bytes_check, byte_answer}
 use Rattle.model.specs.ManyAccounts.{batch_of, row60, row61, accounts_check, report_start, reports_answer}
 use Rattle.model.proofs.Accepted.{clear}
@@ -192,9 +194,13 @@ rewriting_room v b room l =
     answer_low v (room_answer (length (rewriting b)) room) l
     (λ e. room_low (length (rewriting b)) room (omega (arith, rewritten_length (net b) (dvp b), held_most (net b) (dvp b))))
 
+rewrite_low : (d b : List ℕ) → Low (rewrite_check d b)
+unfolding rewrite_check
+rewrite_low d b = all_low _ (day_low d then batch_low d b then rewriting_low d b then tt)
+
 pub rewrite_value_small : (d b : List ℕ) (room : ℕ) → value_of (rewrite_answer d b room) < 2 ^ 32
-unfolding rewrite_answer rewrite_check
-rewrite_value_small d b room = rewriting_room (rewrite_check d b) b room (all_low _ (day_low d then batch_low d b then rewriting_low d b then tt))
+unfolding rewrite_answer
+rewrite_value_small d b room = rewriting_room (rewrite_check d b) b room (rewrite_low d b)
 
 pub add_value_small : (d b w : List ℕ) (room : ℕ) → value_of (add_answer d b w room) < 2 ^ 32
 unfolding add_answer add_check
@@ -208,3 +214,13 @@ add_value_small d b w room =
     then position_low d (added b w)
     then rewriting_low d (added b w)
     then tt))
+
+-- ---- the worst moment of a day
+
+moment_low : (v : Verdict) (m : Moment) → Low v → value_of (value_0 (moment_answer v m)) < 2 ^ 32
+moment_low (Ok _) m p = omega arith
+moment_low (Err k) m p = p.low
+
+pub worst_value_small : (d b t : List ℕ) → value_of (value_0 (worst_answer d b t)) < 2 ^ 32
+unfolding worst_answer worst_check
+worst_value_small d b t = moment_low _ (moment d b t) (all_low _ (rewrite_low d b then plain_low (Netting BadTrades) (row62 t) refl then tt))

@@ -8,7 +8,7 @@ use Rattle.model.specs.declared.ClassFault.TheVariants.{ClassOrder, OffsetDiffer
 use Rattle.model.specs.declared.SeriesFault.TheVariants.{ClassAbsent, SeriesOrder, BadType}
 use Rattle.model.specs.declared.BatchWordsFault.TheVariants.{WrongKind, OutOfRange, MinusZero}
 use Rattle.model.specs.declared.PositionFault.TheVariants.{SeriesAbsent, ExercisedNonOption, FailNonSecurity, DvpNonSecurity}
-use Rattle.model.specs.declared.NettingFault.TheVariants.{NetTooLarge, DvpTooLarge, NoSpace, BadDeposit, UnlikeMultipliers}
+use Rattle.model.specs.declared.NettingFault.TheVariants.{NetTooLarge, DvpTooLarge, NoSpace, BadDeposit, UnlikeMultipliers, BadTrades}
 use Rattle.model.specs.declared.AccountsFault.TheVariants.{BadLengths, ShortResults}
 
 abbrev pub number_of : Check → ℕ
@@ -37,6 +37,7 @@ number_of (Netting DvpTooLarge p) = 31
 number_of (Netting NoSpace p) = 32
 number_of (Netting BadDeposit p) = 50
 number_of (Netting UnlikeMultipliers p) = 51
+number_of (Netting BadTrades p) = 62
 number_of (Check.Report f p) = 40
 number_of (Accounts BadLengths p) = 60
 number_of (Accounts ShortResults p) = 61

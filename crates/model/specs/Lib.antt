@@ -16,6 +16,7 @@ pub mod Calls
 pub mod Rewriting
 pub mod RewritingChecks
 pub mod RewritingCalls
+pub mod WorstMoment
 pub mod Bytes
 pub mod ManyAccounts
 pub mod Reading
@@ -36,5 +37,6 @@ pub mod OffsetFigures
 pub mod ProjectedFigures
 pub mod ExpiredFigures
 pub mod RewritingFigures
+pub mod WorstMomentFigures
 pub mod Ascii
 pub mod Texts

@@ -35,6 +35,10 @@ most_records = 256
 abbrev pub most_accounts : ℕ
 most_accounts = 64
 
+-- the trades of a day
+abbrev pub most_trades : ℕ
+most_trades = 4096
+
 -- the product groups, numbered from 0; each has at most one line in each of the two books
 abbrev pub group_count : ℕ
 group_count = 29

@@ -90,7 +90,7 @@ pub enum PositionFault {
     DvpNonSecurity = 26,
 }
 
-// Rows 30, 31, 32, 50 and 51.
+// Rows 30, 31, 32, 50, 51 and 62.
 #[derive(Clone, Copy)]
 pub enum NettingFault {
     NetTooLarge = 30,
@@ -98,6 +98,7 @@ pub enum NettingFault {
     NoSpace = 32,
     BadDeposit = 50,
     UnlikeMultipliers = 51,
+    BadTrades = 62,
 }
 
 // Row 40.
@@ -127,4 +128,13 @@ pub struct ReportTotals {
     pub ordinary: i64,
     pub fail: i64,
     pub account: i64,
+}
+
+// The worst moment of a day: the highest account margin, the earliest step that has it (0 is the opening), the steps applied and left out.
+#[derive(Clone, Copy)]
+pub struct Moment {
+    pub margin: i64,
+    pub step: u32,
+    pub applied: u32,
+    pub left_out: u32,
 }

@@ -66,6 +66,16 @@ unfoldable pub largest : ℕ → (ℕ → ℤ) → ℤ
 largest zero f = pos 0
 largest (suc n) f = max_z (largest n f) (f n)
 
+-- ---- the highest of f 0, .., f n, and the earliest index that has it: one that only equals the highest so far does not replace it (laws: Highest)
+
+unfoldable pub highest : (ℕ → ℤ) → ℕ → ℤ
+highest f zero = f 0
+highest f (suc n) = max_z (highest f n) (f (suc n))
+
+unfoldable pub earliest : (ℕ → ℤ) → ℕ → ℕ
+earliest f zero = 0
+earliest f (suc n) = cond (lt_z (highest f n) (f (suc n))) (suc n) (earliest f n)
+
 -- ---- a set of numbers below n, given by a test (laws: Maps)
 
 -- as one number, whose bit i says whether the test holds at i

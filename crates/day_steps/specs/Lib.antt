@@ -1,0 +1,9 @@
+pub mod Claims
+pub mod Step
+pub mod Kept
+pub mod OneStep
+pub mod Margins
+pub mod HeldCount
+pub mod Steps
+pub mod Openings
+pub mod WorstMoments
