@@ -1,5 +1,5 @@
 // What the C entries answer: the report of two files given as bytes; of files and deposits given as words; the reports of all accounts of
-// a broker; a batch rewritten, and with a record more; a printed text read back.
+// a broker; a batch rewritten, and with a record more; the worst moment of a day; a printed text read back.
 #![tactic(auto)]
 
 ghost use Rattle.std.specs.Prelude.{◌≡◌, ◌+◌, ◌*◌, ◌^◌, length};
@@ -8,6 +8,7 @@ ghost use Rattle.model.specs.Bytes.{byte_answer, bytes_after};
 ghost use Rattle.model.specs.Calls.{answer, memory_after};
 ghost use Rattle.model.specs.ManyAccounts.{reports_answer, results_after, reports_after};
 ghost use Rattle.model.specs.RewritingCalls.{rewrite_answer, rewrite_after, add_answer, add_after};
+ghost use Rattle.model.specs.WorstMoment.{worst_answer, value_0, part_after};
 ghost use Rattle.model.specs.TextReading.{text_says, text_number, text_value, total_after};
 
 use answers::NUMBER_UNIT;
@@ -68,6 +69,34 @@ pub fn mars_add_record(day: &[u32], batch: &[u32], record: &[u32], out: &mut [u3
     ensures out { out.new ≡ add_after day.now batch.now «record».now out.old }
 {
     answers::packed(rewriting::add_record(day, batch, record, out))
+}
+
+// Number × 2^32 + value: 0 and 0, and the moment's numbers are stored; or the refusal's number and place.
+pub fn mars_worst_moment(
+    day: &[u32],
+    batch: &[u32],
+    trades: &[u32],
+    margin: &mut i64,
+    step: &mut u32,
+    applied: &mut u32,
+    left_out: &mut u32,
+) -> u64
+    ensures result { result ≡ packed (value_0 (worst_answer day.now batch.now trades.now)) }
+    ensures margin { margin.new ≡ part_after (λ m. m.margin) (worst_answer day.now batch.now trades.now) margin.old }
+    ensures step { step.new ≡ part_after (λ m. m.step) (worst_answer day.now batch.now trades.now) step.old }
+    ensures applied { applied.new ≡ part_after (λ m. m.applied) (worst_answer day.now batch.now trades.now) applied.old }
+    ensures left_out { left_out.new ≡ part_after (λ m. m.left_out) (worst_answer day.now batch.now trades.now) left_out.old }
+{
+    match worst_moment::worst_moment(day, batch, trades) {
+        Ok(moment) => {
+            *margin = moment.margin;
+            *step = moment.step;
+            *applied = moment.applied;
+            *left_out = moment.left_out;
+            0
+        }
+        Err(check) => answers::packed(Err(check)),
+    }
 }
 
 // Number × 2^32 + value: 0 and the line count of a printed report, whose totals are stored, a refusal's number and place, or

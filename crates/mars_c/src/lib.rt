@@ -7,6 +7,7 @@ ghost use Rattle.model.specs.Bytes.{byte_answer, bytes_after};
 ghost use Rattle.model.specs.Calls.{answer, memory_after};
 ghost use Rattle.model.specs.ManyAccounts.{reports_answer, results_after, reports_after};
 ghost use Rattle.model.specs.RewritingCalls.{rewrite_answer, rewrite_after, add_answer, add_after};
+ghost use Rattle.model.specs.WorstMoment.{worst_answer, value_0, part_after};
 ghost use Rattle.model.specs.TextReading.{text_says, text_number, text_value, total_after};
 
 // Number × 2^32 + value: 0 and the report's length in words, or the refusal's number and place.
@@ -69,6 +70,26 @@ pub extern "C" fn mars_add_record(
     ensures out { out.new ≡ add_after day.now batch.now «record».now out.old }
 {
     mars::mars_add_record(day, batch, record, out)
+}
+
+// Number × 2^32 + value: 0 and 0, and the moment's numbers are stored; or the refusal's number and place.
+#[unsafe(no_mangle)]
+pub extern "C" fn mars_worst_moment(
+    day: &[u32],
+    batch: &[u32],
+    trades: &[u32],
+    margin: &mut i64,
+    step: &mut u32,
+    applied: &mut u32,
+    left_out: &mut u32,
+) -> u64
+    ensures result { result ≡ packed (value_0 (worst_answer day.now batch.now trades.now)) }
+    ensures margin { margin.new ≡ part_after (λ m. m.margin) (worst_answer day.now batch.now trades.now) margin.old }
+    ensures step { step.new ≡ part_after (λ m. m.step) (worst_answer day.now batch.now trades.now) step.old }
+    ensures applied { applied.new ≡ part_after (λ m. m.applied) (worst_answer day.now batch.now trades.now) applied.old }
+    ensures left_out { left_out.new ≡ part_after (λ m. m.left_out) (worst_answer day.now batch.now trades.now) left_out.old }
+{
+    mars::mars_worst_moment(day, batch, trades, margin, step, applied, left_out)
 }
 
 // Number × 2^32 + value: 0 and the line count of a printed report, whose totals are stored, a refusal's number and place, or

@@ -1,0 +1,3 @@
+pub mod Margins
+pub mod Positions
+pub mod Accounts

@@ -1,0 +1,3 @@
+pub mod Openings
+pub mod Stages
+pub mod Loop
