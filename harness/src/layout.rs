@@ -18,6 +18,9 @@ pub const LONGEST_DAY: usize = series_at(64, 256);
 pub const MOST_RECORDS: usize = 256;
 pub const LONGEST_BATCH: usize = 1 + 6 * MOST_RECORDS;
 
+/// The most trades of a day that are added one by one.
+pub const MOST_TRADES: usize = 4096;
+
 /// Where class c stands.
 pub const fn class_at(c: usize) -> usize {
     1 + CLASS_WORDS * c

@@ -22,6 +22,8 @@ pub mod rng;
 pub mod samples;
 pub mod text_reading;
 pub mod timing;
+pub mod trades;
 #[cfg(feature = "unit")]
 pub mod unit;
 pub mod vectors;
+pub mod worst_moment;

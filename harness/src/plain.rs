@@ -7,6 +7,7 @@ use crate::layout::{
 };
 
 pub mod rewriting;
+pub mod worst_moment;
 
 /// Entries of a table of nets, one a position.
 pub const NETS: usize = 1024;

@@ -1,6 +1,7 @@
 //! The cases of a request, ../vectors/U01.txt and so on: lines of a name and plain numbers, an empty line behind each case.
 use crate::files::top;
 use crate::reckoner::Refusal;
+use crate::worst_moment::Moment;
 use std::collections::BTreeMap;
 use std::fs;
 use std::path::{Path, PathBuf};
@@ -119,4 +120,18 @@ pub fn check_rewriting(
         "add_record" => add_record(&day, &batch, &case.words("record"), memory),
         _ => panic!("{}: no such call", case.name),
     });
+}
+
+/// All cases of the worst moment.
+pub fn worst_moments() -> Vec<Case> {
+    cases("U10", 87)
+}
+
+/// Such a case: day file, batch and trades; the four numbers stand beside an answer alone.
+pub fn check_worst_moment(case: &Case, call: impl FnOnce(&[u32], &[u32], &[u32]) -> Result<Moment, Refusal>) {
+    assert_eq!(case.call, "worst_moment", "{}", case.name);
+    let answer = call(&case.words("day"), &case.words("batch"), &case.words("trades"));
+    assert_eq!(numbers(answer.map(|_| 0)), case.answer(), "{}", case.name);
+    let told = answer.ok().map(|m| vec![m.margin as u64, m.step.into(), m.applied.into(), m.left_out.into()]);
+    assert_eq!(told.as_ref(), case.fields.get("numbers"), "{}", case.name);
 }

@@ -7,6 +7,8 @@ use harness::plain::{self, NETS};
 use harness::reckoner::{call_bytes, call_words, to_bytes, Refusal};
 use harness::rewriting::{add_record, rewrite};
 use harness::rng::Rng;
+use harness::trades::mixed_day;
+use harness::worst_moment::worst_moment;
 use std::collections::BTreeSet;
 
 /// An answer as the unit's calls give it.
@@ -85,6 +87,26 @@ fn baseline_agrees_with_the_reckoner_on_rewritings() {
     }
     let table = [0, 10, 11, 12, 13, 14, 15, 16, 17, 18, 20, 21, 22, 23, 24, 25, 26, 27, 28, 30, 31, 32, 40];
     assert_eq!(numbers.into_iter().collect::<Vec<_>>(), table);
+}
+
+#[test]
+fn baseline_agrees_with_the_reckoner_on_worst_moments() {
+    let mut rng = Rng::new(12);
+    let mut numbers = BTreeSet::new();
+    let (mut applied, mut left_out) = (0, 0);
+    for i in 0..3000 {
+        let (a, trades) = mixed_day(&mut rng, i);
+        let expected = worst_moment(&a.day, &a.batch, &trades).map_err(|r| (u64::from(r.number), r.place));
+        assert_eq!(plain::worst_moment::worst_moment(&a.day, &a.batch, &trades), expected, "case {i}");
+        numbers.insert(expected.err().map_or(0, |r| r.0));
+        let worst = expected.unwrap_or_default();
+        applied += worst.applied;
+        left_out += worst.left_out;
+    }
+    println!("{applied} steps applied, {left_out} left out");
+    let table = [0, 10, 11, 12, 13, 14, 15, 16, 17, 18, 20, 21, 22, 23, 24, 25, 26, 27, 28, 30, 31, 62];
+    assert_eq!(numbers.into_iter().collect::<Vec<_>>(), table);
+    assert!(applied >= 9000 && left_out >= 1000);
 }
 
 #[test]

@@ -1,8 +1,9 @@
 //! The reckoner against the vectors.
 use harness::reckoner::{call_bytes, call_words, reckon, text, to_words};
-use harness::requests::{check_report, check_rewriting, reports, rewritings};
+use harness::requests::{check_report, check_rewriting, check_worst_moment, reports, rewritings, worst_moments};
 use harness::rewriting::{add_record, rewrite};
 use harness::vectors::vectors;
+use harness::worst_moment::worst_moment;
 
 #[test]
 fn agrees_with_the_vectors() {
@@ -20,5 +21,8 @@ fn agrees_with_the_cases_of_requests() {
     }
     for case in rewritings() {
         check_rewriting(&case, rewrite, add_record);
+    }
+    for case in worst_moments() {
+        check_worst_moment(&case, worst_moment);
     }
 }
