@@ -1,10 +1,11 @@
-//! The calls that rewrite a batch, made by the unit and by the reckoner on the same inputs.
+//! The calls that rewrite a batch, and the worst moment of a day, made by the unit and by the reckoner on the same inputs.
 use crate::accounts::Account;
 use crate::layout::LONGEST_BATCH;
 use crate::reckoner::Refusal;
 use crate::rewriting::{add_record, rewrite};
 use crate::rng::Rng;
 use crate::unit;
+use crate::worst_moment::{course, Course};
 
 /// Words in front of a memory and behind it.
 const GUARD: usize = 8;
@@ -30,6 +31,16 @@ pub fn compare(a: &Account, record: Option<&[u32]>, room: usize, fill: &mut Rng,
     assert!(around[..GUARD] == before[..GUARD] && around[written.end..] == before[written.end..], "around: {case}");
     assert!(day == a.day && batch == a.batch && lent.as_deref() == record, "inputs: {case}");
     ours.map(|_| around[written].to_vec())
+}
+
+/// The worst moment of a day, or the refusal, must be the reckoner's, and the inputs stay: the day step by step.
+pub fn compare_day(a: &Account, trades: &[u32], case: &str) -> Result<Course, Refusal> {
+    let course = course(&a.day, &a.batch, trades);
+    let (day, batch, lent) = (a.day.clone(), a.batch.clone(), trades.to_vec());
+    let ours = unit::worst_moment(&day, &batch, &lent);
+    assert_eq!(ours, course.as_ref().map(Course::worst).map_err(|r| *r), "{case}");
+    assert!(day == a.day && batch == a.batch && lent == trades, "inputs: {case}");
+    course
 }
 
 /// The unit's rewriting, where it accepts the batch.

@@ -1,6 +1,7 @@
 //! The unit's calls for a C host, linked from its static library; for the benchmark its netting alone.
 use crate::reckoner::Refusal;
 use crate::text_reading::Said;
+use crate::worst_moment::Moment;
 
 extern "C" {
     fn mars_report(day: *const u8, day_len: usize, batch: *const u8, batch_len: usize, report: *mut u8, report_len: usize)
@@ -37,6 +38,18 @@ extern "C" {
         record_len: usize,
         out: *mut u32,
         out_len: usize,
+    ) -> u64;
+    fn mars_worst_moment(
+        day: *const u32,
+        day_len: usize,
+        batch: *const u32,
+        batch_len: usize,
+        trades: *const u32,
+        trades_len: usize,
+        margin: *mut i64,
+        step: *mut u32,
+        applied: *mut u32,
+        left_out: *mut u32,
     ) -> u64;
     fn mars_read_text(text: *const u8, text_len: usize, ordinary: *mut i64, fail: *mut i64, account: *mut i64) -> u64;
 }
@@ -124,6 +137,32 @@ pub fn add_record(day: &[u32], batch: &[u32], record: &[u32], memory: &mut [u32]
             room,
         )
     })
+}
+
+/// The worst moment of a day, or the refusal. The four numbers that are lent must then stay.
+pub fn worst_moment(day: &[u32], batch: &[u32], trades: &[u32]) -> Result<Moment, Refusal> {
+    let before = Moment { margin: i64::MIN, step: 7, applied: 77, left_out: 777 };
+    let mut m = before;
+    // No precondition: any three slices of words to read, and four distinct numbers.
+    let answer = parts(unsafe {
+        mars_worst_moment(
+            day.as_ptr(),
+            day.len(),
+            batch.as_ptr(),
+            batch.len(),
+            trades.as_ptr(),
+            trades.len(),
+            &mut m.margin,
+            &mut m.step,
+            &mut m.applied,
+            &mut m.left_out,
+        )
+    });
+    match answer {
+        Ok(value) => assert_eq!(value, 0),
+        Err(refusal) => assert_eq!(m, before, "{refusal:?}, yet a number was stored"),
+    }
+    answer.map(|_| m)
 }
 
 /// A printed text read back. Numbers that are lent for the totals must stay unless the text is a report's.
