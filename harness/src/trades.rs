@@ -1,8 +1,9 @@
 //! Days to try: openings and their trades, some of which are left out, and lists that row 62 refuses.
-use crate::accounts::{damage, Account};
+use crate::accounts::{damage, type_of, word, Account};
 use crate::additions::{damage_record, mixed_positions, record_behind, RECORD_WAYS};
 use crate::layout::MOST_TRADES;
 use crate::positions::keys;
+use crate::reckoner::is_security;
 use crate::records::{dvp, records_of, set_dvp};
 use crate::rng::Rng;
 
@@ -37,6 +38,20 @@ pub fn trades(rng: &mut Rng, a: &Account, count: usize) -> Vec<[u32; 6]> {
     }
     out.truncate(count);
     out
+}
+
+/// So many small trades of an account's positions; of ten, one is exercised and a fail, which rows 24 and 25 refuse.
+pub fn small_trades(rng: &mut Rng, a: &Account, count: usize) -> Vec<[u32; 6]> {
+    let records = records_of(&a.batch);
+    let trade = |i: usize| {
+        let mut out = rng.pick(&records);
+        (out[1], out[2]) = (word(4, rng.below(4) as u32), word(4, rng.below(4) as u32));
+        let moved = if is_security(type_of(&a.day, (out[0] & 255) as usize)) { rng.below(2001) as i128 - 1000 } else { 0 };
+        set_dvp(&mut out, moved);
+        out[0] |= if i % 10 == 9 { 3 << 8 } else { 0 };
+        out
+    };
+    (0..count).map(trade).collect()
 }
 
 /// A list that is cut anywhere, has some words more, or is longer than it may be.

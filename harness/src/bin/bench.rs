@@ -1,11 +1,12 @@
 //! The unit's calls timed in one run beside others that do the same work: the byte call, the call over words, with deposits too, a batch
-//! rewritten, with a record added too, and netting alone beside plain Rust, all accounts of a broker in one call beside as many byte calls.
+//! rewritten, with a record added too, the worst moment of a day, and netting alone beside plain Rust, all accounts of a broker in one call
+//! beside as many byte calls, a step of a day beside a whole report.
 //! Fails where a ratio is above its limit.
 //! From the top folder: `host/library.sh mars netting_times`; here `cargo run --release --features bench --bin bench`.
 use harness::accounts::{accepted, batch, Account, Size, LARGEST, TYPICAL};
 use harness::cases::LONGEST;
 use harness::deposits::half_covered;
-use harness::layout::{LONGEST_BATCH, MOST_RECORDS};
+use harness::layout::{LONGEST_BATCH, MOST_RECORDS, MOST_TRADES};
 use harness::many::joined;
 use harness::places::{Placed, Places};
 use harness::plain::{self, NETS};
@@ -14,7 +15,9 @@ use harness::reckoner::{reckon, to_bytes, Refusal};
 use harness::rewriting;
 use harness::rng::Rng;
 use harness::timing::{Call, Times};
+use harness::trades::small_trades;
 use harness::unit;
+use harness::worst_moment::Moment;
 use std::hint::black_box;
 
 const ROUNDS: usize = 100;
@@ -143,6 +146,57 @@ fn added(name: &str, size: Size, positions: usize) -> Figure {
     word_call(name, None, (a, record), unit::add_record, plain::rewriting::add_record)
 }
 
+/// Steps of a call for the worst moment, each a piece of its work.
+const STEPS: u32 = MOST_TRADES as u32;
+
+/// An opening of 256 records on so many positions, as many trades of them as a day may have, of which about nine in ten are applied, and the
+/// worst moment.
+fn full_day(size: Size, positions: usize) -> (Account, Vec<u32>, Moment) {
+    let a = rewritable(size, positions);
+    let trades = small_trades(&mut Rng::new(10), &a, MOST_TRADES).concat();
+    let worst = unit::worst_moment(&a.day, &a.batch, &trades).expect("accepted");
+    assert!((STEPS * 85 / 100..=STEPS * 9 / 10 + 1).contains(&worst.applied), "{worst:?}");
+    (a, trades, worst)
+}
+
+/// A step of a day beside plain Rust: its share of a call for the worst moment.
+fn step(name: &str, size: Size, positions: usize, limit: Option<f64>) -> Figure {
+    let (a, trades, worst) = full_day(size, positions);
+    let name = format!("worst moment, {name}, a step of {STEPS} : plain Rust");
+    Figure::new(name, limit, move |places, times| {
+        let [day, batch, trades] = [&a.day, &a.batch, &trades].map(|content| places.memory(content));
+        let (mut ours, mut theirs) = (None, None);
+        let mut unit_call = || {
+            ours = black_box(unit::worst_moment(black_box(&day), black_box(&batch), black_box(&trades))).ok();
+        };
+        let mut plain_call = || {
+            theirs = black_box(plain::worst_moment::worst_moment(black_box(&day), black_box(&batch), black_box(&trades))).ok();
+        };
+        times.round(places, [Call(STEPS, &mut unit_call), Call(STEPS, &mut plain_call)]);
+        assert!(ours == Some(worst) && theirs == Some(worst), "a worst moment differs");
+    })
+}
+
+/// The same beside a report of the opening, whose batch has about as many positions as the account behind each step.
+fn step_and_report(name: &str, size: Size, positions: usize, limit: f64) -> Figure {
+    let (a, trades, worst) = full_day(size, positions);
+    let mut expected = [0; LONGEST];
+    unit::call_words(&a.day, &a.batch, &[], &mut expected).expect("accepted");
+    let name = format!("worst moment, {name}, a step of {STEPS} : a whole report");
+    Figure::new(name, Some(limit), move |places, times| {
+        let [day, batch, trades] = [&a.day, &a.batch, &trades].map(|content| places.memory(content));
+        let (mut found, mut report) = (None, places.memory(&[0; LONGEST]));
+        let mut steps = || {
+            found = black_box(unit::worst_moment(black_box(&day), black_box(&batch), black_box(&trades))).ok();
+        };
+        let mut one_report = || {
+            black_box(unit::call_words(black_box(&day), black_box(&batch), &[], black_box(&mut report))).ok();
+        };
+        times.round(places, [Call(STEPS, &mut steps), Call(1, &mut one_report)]);
+        assert!(found == Some(worst) && *report == expected, "a worst moment or a report differs");
+    })
+}
+
 /// 64 accounts of one day file in one call, beside a byte call for each.
 fn all_accounts(name: &str, size: Size, limit: Option<f64>) -> Figure {
     let a = account(size);
@@ -236,6 +290,9 @@ fn main() {
         rewritten("largest", LARGEST, 4, Some(1.5)),
         added("largest", LARGEST, 256),
         added("typical", TYPICAL, 40),
+        step("largest", LARGEST, 256, Some(1.5)),
+        step("typical", TYPICAL, 40, None),
+        step_and_report("largest", LARGEST, 256, 0.2),
         all_accounts("typical", TYPICAL, Some(0.8)),
         all_accounts("largest", LARGEST, None),
         netting(&format!("netting of {records} records : plain Rust, one table"), 10.0, 1, one_table),
