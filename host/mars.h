@@ -14,7 +14,8 @@
  *
  * All three memories are runs of 32-bit words, low byte first. Over arrays of uint32_t, mars_report_words does the same and
  * takes deposits of shares against short futures, and mars_reports does it for many batches in one call. mars_rewrite makes
- * of a batch the one with a record for each position, and mars_add_record the same with a record added.
+ * of a batch the one with a record for each position, and mars_add_record the same with a record added. mars_worst_moment adds
+ * a day's trades to a batch one by one and says when its margin was highest.
  */
 #ifndef MARS_H
 #define MARS_H
@@ -152,6 +153,34 @@ uint64_t mars_add_record(const uint32_t *day, size_t day_len, const uint32_t *ba
                          const uint32_t *record, size_t record_len, uint32_t *out, size_t out_len);
 
 /*
+ * Says when the account margin was highest on a day: adds its trades one by one to an opening batch, each as mars_add_record
+ * adds a record to the batch that the steps before have made.
+ *
+ * day, batch   The files' words; the batch is the opening.
+ * trades       MARS_RECORD_WORDS words a trade, as a record in a batch has them; at most MARS_MOST_TRADES trades. The first is
+ *              step 1. A step whose record mars_add_record would refuse is left out: the account stays, and the steps behind
+ *              keep their numbers.
+ * margin       Where the highest account margin over the opening and all steps is stored: the account total of mars_report.
+ * step         .. the earliest step that has it, 0 for the opening.
+ * applied, left_out
+ *              .. how many steps were applied, and how many left out: together one a trade.
+ * *_len        Lengths in words. Any length is allowed, zero too; with no trades the opening's margin and 0, 0, 0 are stored.
+ * Pointers     Not NULL, not even with length zero; aligned as a uint32_t, margin as an int64_t. The four numbers are distinct
+ *              and overlap nothing that is read; the three that are read may overlap each other, and nothing may write to them
+ *              while the call runs.
+ *
+ * Result       mars_number and mars_value are 0.
+ *              Otherwise mars_number is that of a refusal of mars_rewrite without MARS_SHORT_REPORT, of the opening, or behind
+ *              them MARS_TRADES, and mars_value its place. The four numbers are then unchanged.
+ *
+ * Threads      The call keeps no state. It may run in any threads at once as long as their numbers are distinct.
+ */
+#define MARS_MOST_TRADES 4096
+uint64_t mars_worst_moment(const uint32_t *day, size_t day_len, const uint32_t *batch, size_t batch_len,
+                           const uint32_t *trades, size_t trades_len, int64_t *margin, uint32_t *step, uint32_t *applied,
+                           uint32_t *left_out);
+
+/*
  * Reads back a text that the report program printed.
  *
  * text         Read during the call only, never written or kept. Any bytes are allowed.
@@ -172,10 +201,11 @@ uint64_t mars_add_record(const uint32_t *day, size_t day_len, const uint32_t *ba
 uint64_t mars_read_text(const uint8_t *text, size_t text_len, int64_t *ordinary, int64_t *fail, int64_t *account);
 
 /* Refusals in the order in which they are tried, each over all records, words or deposits before the next: the first two by
- * mars_report alone, MARS_DVP_LIMIT by mars_rewrite and mars_add_record, MARS_NO_SPACE by mars_add_record alone, those of
- * deposits by mars_report_words alone, the last two by mars_reports alone, before all others. */
+ * mars_report alone, MARS_DVP_LIMIT by mars_rewrite, mars_add_record and mars_worst_moment, MARS_NO_SPACE by mars_add_record
+ * alone, MARS_TRADES by mars_worst_moment alone, those of deposits by mars_report_words alone, MARS_SHORT_REPORT by all but
+ * mars_worst_moment, the last two by mars_reports alone, before all others. */
 enum mars_refusal {
-    MARS_REPORT = 0,            /* no refusal: a report, or a rewriting, was written */
+    MARS_REPORT = 0,            /* no refusal: a report, or a rewriting, was written, or a worst moment stored */
     MARS_DAY_BYTES_BAD = 1,     /* day file's length is no multiple of 4, or exceeds the longest form */
     MARS_BATCH_BYTES_BAD = 2,   /* the same of the batch */
     MARS_DAY_HEADER = 10,       /* day header: no words, wrong kind, spare bits, too many classes or series */
@@ -199,6 +229,7 @@ enum mars_refusal {
     MARS_NET_LIMIT = 30,        /* a position's net x multiplier above 10,000,000; place: its first record */
     MARS_DVP_LIMIT = 31,        /* a position's DVP sum above that of a record; place: its first record, also with net 0 */
     MARS_NO_SPACE = 32,         /* with the record added there are more than 256 positions; place 0 */
+    MARS_TRADES = 62,           /* trades that are not whole records, or more than 4,096; place 0 */
     MARS_DEPOSIT = 50,          /* odd number of words (place 0, first); class unknown or named before, or too many shares */
     MARS_UNLIKE_MULTIPLIERS = 51, /* the class's futures, open and expired, have unlike multipliers; place: deposit, as above */
     MARS_SHORT_REPORT = 40,     /* report memory, or out, too short; the value is the words needed */

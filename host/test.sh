@@ -31,7 +31,7 @@ done
 
 # calls at the edges, plain and with sanitizers where the compiler has them
 cc $strict -pthread test_calls.c "$library" -o "$out/test_calls"
-folders="../samples/fail ../samples/spread ../samples/expired"
+folders="../samples/fail ../samples/spread ../samples/expired ../samples/share"
 "$out/test_calls" $folders || failed=1
 echo 'int main(void) { return 0; }' >"$out/probe.c"
 if cc -fsanitize=address,undefined "$out/probe.c" -o "$out/probe" 2>/dev/null && "$out/probe"; then

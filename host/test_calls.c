@@ -1,6 +1,6 @@
 /* Calls at the edges: unaligned and empty inputs, short memories, memories at the border of inaccessible pages, threads;
  * bad words of a batch by record and field; prices of a class in order and not; many accounts in one call; deposits; an expired
- * future; batches rewritten and records added; printed texts read back. */
+ * future; batches rewritten and records added; a day's worst moment; printed texts read back. */
 #define _DEFAULT_SOURCE
 #include "mars.h"
 
@@ -298,25 +298,30 @@ struct words {
 
 typedef uint64_t words_call(const uint32_t *, size_t, const uint32_t *, size_t, const uint32_t *, size_t, uint32_t *, size_t);
 
+/* The end of such pages: of the three inputs, and of a memory to write. */
+static uint8_t *end_of_pages(int which, int protection) {
+    static uint8_t *pages[4];
+    size_t length = 32 * (size_t)sysconf(_SC_PAGESIZE);
+    if (pages[which] == NULL) pages[which] = fenced(length);
+    mprotect(pages[which], length, protection);
+    return pages[which] + length;
+}
+
+/* The words as the input `which`, at the end of its pages, read-only. */
+static const uint32_t *lend(int which, struct words given) {
+    uint32_t *at = (uint32_t *)end_of_pages(which, PROT_READ | PROT_WRITE) - given.length;
+    memcpy(at, given.at, 4 * given.length);
+    end_of_pages(which, PROT_READ);
+    return at;
+}
+
 /* One call with each memory at the end of its pages, the inputs read-only. What is written is left in `out`; words that the call may not
  * write must stay. */
 static uint64_t over_words(words_call *call, struct words d, struct words b, struct words more, uint32_t *out, size_t room,
                            const char *what) {
-    static uint8_t *pages[4];
-    size_t length = 16 * (size_t)sysconf(_SC_PAGESIZE);
-    struct words given[3] = {d, b, more};
-    uint32_t *at[3];
-    for (int i = 0; i < 4; i++)
-        if (pages[i] == NULL) pages[i] = fenced(length);
-    for (int i = 0; i < 3; i++) {
-        at[i] = (uint32_t *)(pages[i] + length) - given[i].length;
-        mprotect(pages[i], length, PROT_READ | PROT_WRITE);
-        memcpy(at[i], given[i].at, 4 * given[i].length);
-        mprotect(pages[i], length, PROT_READ);
-    }
-    uint32_t *memory = (uint32_t *)(pages[3] + length) - room, *from = memory - GUARD;
+    uint32_t *memory = (uint32_t *)end_of_pages(3, PROT_READ | PROT_WRITE) - room, *from = memory - GUARD;
     for (size_t i = 0; i < GUARD + room; i++) from[i] = (uint32_t)i * 7 + 13;
-    uint64_t result = call(at[0], d.length, at[1], b.length, at[2], more.length, memory, room);
+    uint64_t result = call(lend(0, d), d.length, lend(1, b), b.length, lend(2, more), more.length, memory, room);
     size_t written = mars_number(result) == MARS_REPORT ? mars_value(result) : 0;
     check(written <= room, what, room);
     for (size_t i = 0; i < GUARD + room; i++)
@@ -580,6 +585,109 @@ static void rewritings(void) {
     refuses(mars_add_record, traded, record(3, 1, 0, 0), MARS_BATCH_HEADER, 0, "add: a header of 257 records");
 }
 
+/* ---- a day's worst moment */
+
+struct moment {
+    int64_t margin;
+    uint32_t step, applied, left_out;
+};
+
+/* One call with each input at the end of its pages, read-only, and each of the four numbers between two others, which must stay. */
+static uint64_t worst(struct words d, struct words b, struct words trades, struct moment *m, const char *what) {
+    int64_t margin[3] = {-1, m->margin, -3};
+    uint32_t step[3] = {1, m->step, 3}, applied[3] = {4, m->applied, 6}, left_out[3] = {7, m->left_out, 9};
+    uint64_t result = mars_worst_moment(lend(0, d), d.length, lend(1, b), b.length, lend(2, trades), trades.length, &margin[1],
+                                        &step[1], &applied[1], &left_out[1]);
+    check(margin[0] == -1 && margin[2] == -3 && step[0] == 1 && step[2] == 3, what, 0);
+    check(applied[0] == 4 && applied[2] == 6 && left_out[0] == 7 && left_out[2] == 9, what, 1);
+    *m = (struct moment){margin[1], step[1], applied[1], left_out[1]};
+    return result;
+}
+
+/* The call must store these four numbers. */
+static void finds(struct words d, struct words b, struct words trades, struct moment expected, const char *what) {
+    struct moment m = {INT64_MIN, 11, 22, 33};
+    check(worst(d, b, trades, &m, what) == 0, what, 2);
+    check(m.margin == expected.margin && m.step == expected.step, what, 3);
+    check(m.applied == expected.applied && m.left_out == expected.left_out, what, 4);
+}
+
+/* The call must be refused so and store nothing. */
+static void refuses_day(struct words d, struct words b, struct words trades, uint32_t number, uint32_t place, const char *what) {
+    struct moment m = {INT64_MIN, 11, 22, 33};
+    check(worst(d, b, trades, &m, what) == refusal(number, place), what, 2);
+    check(m.margin == INT64_MIN && m.step == 11 && m.applied == 22 && m.left_out == 33, what, 3);
+}
+
+/* The trade as the last of the list, whose memory has space for it. */
+static void trade(struct words *list, struct words record) {
+    memcpy(list->at + list->length, record.at, 4 * record.length);
+    list->length += record.length;
+}
+
+/* The share of the sample `share`: short n of it has a margin of 44 n euro, long n none. */
+static void worst_moments(const char *folder) {
+    static uint32_t of_opening[LONGEST_BATCH], of_trades[MARS_RECORD_WORDS * (MARS_MOST_TRADES + 1)];
+    const int64_t one = 440000;
+    struct file day_file = read_file(folder, "day.w32");
+    struct words d = {words_of(day_file), day_file.length / 4}, opening = {of_opening, 1}, none = {of_trades, 0}, list = none;
+    of_opening[0] = 1u << 29;
+    finds(d, opening, none, (struct moment){0, 0, 0, 0}, "worst: nothing");
+
+    /* short 10, a series that is absent, long 5, short 5: the last step only equals the first */
+    trade(&list, record(0, 0, 10, 0));
+    trade(&list, record(1, 0, 10, 0));
+    trade(&list, record(0, 5, 0, 0));
+    trade(&list, record(0, 0, 5, 0));
+    finds(d, opening, list, (struct moment){10 * one, 1, 3, 1}, "worst: the example");
+    trade(&list, record(0, 0, 1, 0));
+    finds(d, opening, list, (struct moment){11 * one, 5, 4, 1}, "worst: the last step");
+    append(&opening, record(0, 0, 11, 0));
+    finds(d, opening, none, (struct moment){11 * one, 0, 0, 0}, "worst: no trades");
+    finds(d, opening, (struct words){list.at + 2 * MARS_RECORD_WORDS, 3 * MARS_RECORD_WORDS}, (struct moment){12 * one, 3, 3, 0},
+          "worst: from an opening");
+    finds(d, opening, (struct words){list.at + 2 * MARS_RECORD_WORDS, MARS_RECORD_WORDS}, (struct moment){11 * one, 0, 1, 0},
+          "worst: the opening");
+    /* the trades may stand in the batch */
+    struct moment m = {0, 0, 0, 0};
+    uint64_t result = mars_worst_moment(d.at, d.length, opening.at, opening.length, opening.at + 1, MARS_RECORD_WORDS, &m.margin, &m.step,
+                                        &m.applied, &m.left_out);
+    check(result == 0 && m.margin == 22 * one && m.step == 1 && m.applied == 1 && m.left_out == 0, "worst: the batch's own record", 0);
+
+    /* lists of each length about those of whole trades; the most trades, and one more */
+    for (size_t length = 0; length <= list.length; length++)
+        if (length % MARS_RECORD_WORDS != 0)
+            refuses_day(d, opening, (struct words){list.at, length}, MARS_TRADES, 0, "worst: no whole trades");
+    list.length = 0;
+    for (size_t i = 0; i < MARS_MOST_TRADES; i++) trade(&list, record(0, 0, 1, 0));
+    finds(d, opening, list, (struct moment){(11 + MARS_MOST_TRADES) * one, MARS_MOST_TRADES, MARS_MOST_TRADES, 0}, "worst: 4,096 trades");
+    trade(&list, record(0, 0, 1, 0));
+    refuses_day(d, opening, list, MARS_TRADES, 0, "worst: 4,097 trades");
+
+    /* what refuses the opening comes before such a list */
+    refuses_day(none, opening, list, MARS_DAY_HEADER, 0, "worst: no day file");
+    refuses_day(d, none, list, MARS_BATCH_HEADER, 0, "worst: no batch");
+    append(&opening, record(0, 0, 0, MOST_DVP));
+    append(&opening, record(1, 0, 0, 1));
+    refuses_day(d, opening, list, MARS_POSITION_SERIES, 2, "worst: an opening that is refused");
+    opening.length -= MARS_RECORD_WORDS;
+    append(&opening, record(0, 0, 0, 1));
+    refuses_day(d, opening, list, MARS_DVP_LIMIT, 0, "worst: an opening that is not rewritten");
+    refuses_day(d, opening, none, MARS_DVP_LIMIT, 0, "worst: the same without trades");
+
+    /* 256 positions: no other one until one of them is gone */
+    opening.length = 1;
+    for (uint32_t s = 0; s < 256; s++) append(&opening, record(s, 1, 0, 0));
+    list.length = 0;
+    trade(&list, record(3 | FAIL, 1, 0, 0));
+    finds(shares(), opening, list, (struct moment){0, 0, 0, 1}, "worst: a 257th position");
+    trade(&list, record(3, 0, 1, 0));
+    trade(&list, record(3 | FAIL, 1, 0, 0));
+    finds(shares(), opening, list, (struct moment){0, 0, 2, 1}, "worst: a position gone");
+    free(d.at);
+    free(day_file.bytes);
+}
+
 /* ---- texts */
 
 /* Reads a text of exactly these bytes; the totals must be those given, which are the numbers before where it has none. */
@@ -698,10 +806,10 @@ static void price_order(void) {
     check(with_price(1, prices[15]) == expected_result && with_price(1, prices[15] + 1) == refused, "price order: upside 1", 1);
 }
 
-/* The arguments are the folders of the samples `fail`, `spread` and `expired`. */
+/* The arguments are the folders of the samples `fail`, `spread`, `expired` and `share`. */
 int main(int argc, char **argv) {
-    if (argc != 4) {
-        fprintf(stderr, "usage: %s FAIL SPREAD EXPIRED\n", argv[0]);
+    if (argc != 5) {
+        fprintf(stderr, "usage: %s FAIL SPREAD EXPIRED SHARE\n", argv[0]);
         return 2;
     }
     day = read_file(argv[1], "day.w32");
@@ -720,6 +828,7 @@ int main(int argc, char **argv) {
     deposits(argv[2]);
     expired_future(argv[3]);
     rewritings();
+    worst_moments(argv[4]);
     texts();
     free(day.bytes);
     free(batch.bytes);
