@@ -34,7 +34,9 @@ fn group_sum(spread: i64, mtm: i64, premium: i64, requirement: i64) -> i64
     spread + mtm + premium + requirement
 }
 
-// The line of a group: margin is the group sum if positive, residual credit its negative if negative.
+// The line of a group: margin is the group sum if positive, residual credit its negative if negative. Inlined: as a function of its own the
+// report of the largest account took 1.12 of plain Rust's time, and not 1.05.
+#[inline(always)]
 pub fn group_line(held: &GroupHoldings) -> Line
     ensures { (result.spread ∷ result.mtm ∷ result.premium ∷ result.requirement ∷ result.margin ∷ result.residual ∷ []) ≡ line_amounts (group_day held.now) (group_net held.now) (group_dvp held.now) (group_book held.now) held.now.group }
 {
