@@ -1,4 +1,4 @@
--- The record written for a position: key, net and DVP read back from it, and its words pass rows 22, 27 and 28.
+-- The record written for a position: key and net read back from it; and of any key, quantities and amount within its limits the words pass rows 22, 27 and 28.
 use Rattle.std.specs.Prelude.{◌≡◌, Bool, ◌&&◌, cond, List, ◌∷◌, ℕ, zero, suc, ◌+◌, ◌/◌, ◌%◌, ◌^◌, ◌≤◌, ◌<◌, leb, ℤ, pos, negsuc, ◌-ℤ◌}
 use Rattle.std.proofs.Math.Path.{refl, sym, ap}
 use Rattle.std.proofs.Common.{◌∙◌, arith}
@@ -9,10 +9,10 @@ use Rattle.std.proofs.Math.IntN.{nat_abs, +ℤ_idl, +ℤ_idr}
 use Rattle.numbers.specs.Tests.{and_false}
 use Rattle.model.specs.Limits.{quantity_limit, dvp_amount_limit}
 use Rattle.model.specs.Words.{kind, payload, payload_limit, bits, word, magnitude, negative, sign_bit, high_word, middle_word, low_word}
-use Rattle.model.specs.Batch.{record_words, record_word}
+use Rattle.model.specs.Batch.{record_words, record_word, position_record}
 use Rattle.model.specs.BatchChecks.{record_kind, key_limit, record_limit, dvp_out_of_range, dvp_minus_zero, wrong_kind, out_of_range, minus_zero}
 use Rattle.model.specs.Netting.{position_count}
-use Rattle.model.specs.Rewriting.{long_of, short_of, record_for}
+use Rattle.model.specs.Rewriting.{long_of, short_of}
 use Rattle.model.proofs.Sizes.{size-amount}
 use Rattle.model.proofs.WordsBack.{payload-word, amount_back, no_minus-zero}
 
@@ -27,7 +27,7 @@ net_read (negsuc n) h = rw (payload-word 4 (suc n) (omega arith)) (+ℤ_idl (neg
 
 -- ---- its words
 
-quantities : (x : ℤ) → nat_abs x ≤ quantity_limit → (long_of x ≤ quantity_limit) × (short_of x ≤ quantity_limit)
+pub quantities : (x : ℤ) → nat_abs x ≤ quantity_limit → (long_of x ≤ quantity_limit) × (short_of x ≤ quantity_limit)
 quantities (pos n) h = (omega arith, h)
 quantities (negsuc n) h = (h, omega arith)
 
@@ -48,20 +48,20 @@ limited j = by (eqb j 0) (leb j 2)
     by false true = omega arith
     by false false = omega arith
 
--- of a position whose net and DVP are within a record's limits
-module _ (n v : ℕ → ℤ) (p : ℕ) (hp : p < position_count) (hn : nat_abs (n p) ≤ quantity_limit) (hv : nat_abs (v p) ≤ dvp_amount_limit) where
-  -- its record by itself
+-- of a key, quantities and an amount within a record's limits
+module _ (p l s : ℕ) (z : ℤ) (hp : p ≤ key_limit) (hl : l ≤ quantity_limit) (hs : s ≤ quantity_limit) (hz : nat_abs z ≤ dvp_amount_limit) where
+  -- their record by itself
   abbrev alone : List ℕ
-  alone = 0 ∷ record_for n v p
+  alone = 0 ∷ position_record p l s z
 
   -- word j has its kind and is within its limit
   word_is : (j : ℕ) → j < record_words → (q : ℕ) × (record_word alone 0 j ≡ word (record_kind j) q) × (q ≤ record_limit j)
-  word_is zero h = (p, refl, omega arith)
-  word_is (suc zero) h = (long_of (n p), refl, (quantities (n p) hn).0)
-  word_is (suc (suc zero)) h = (short_of (n p), refl, (quantities (n p) hn).1)
-  word_is (suc (suc (suc zero))) h = (sign_bit (v p) + nat_abs (v p) / 2 ^ 58, refl, high_limit (v p) hv)
-  word_is (suc (suc (suc (suc zero)))) h = (nat_abs (v p) / 2 ^ 29 % 2 ^ 29, refl, omega arith)
-  word_is (suc (suc (suc (suc (suc zero))))) h = (nat_abs (v p) % 2 ^ 29, refl, omega arith)
+  word_is zero h = (p, refl, hp)
+  word_is (suc zero) h = (l, refl, hl)
+  word_is (suc (suc zero)) h = (s, refl, hs)
+  word_is (suc (suc (suc zero))) h = (sign_bit z + nat_abs z / 2 ^ 58, refl, high_limit z hz)
+  word_is (suc (suc (suc (suc zero)))) h = (nat_abs z / 2 ^ 29 % 2 ^ 29, refl, omega arith)
+  word_is (suc (suc (suc (suc (suc zero))))) h = (nat_abs z % 2 ^ 29, refl, omega arith)
   word_is (suc (suc (suc (suc (suc (suc j)))))) h = absurd (omega arith)
 
   pub kinds_right : (j : ℕ) → j < record_words → wrong_kind alone 0 j ≡ false
@@ -72,13 +72,13 @@ module _ (n v : ℕ → ℤ) (p : ℕ) (hp : p < position_count) (hn : nat_abs (
 
   -- the magnitude of its DVP amount
   abbrev size : ℕ
-  size = magnitude (high_word (v p)) (middle_word (v p)) (low_word (v p))
+  size = magnitude (high_word z) (middle_word z) (low_word z)
 
   dvp_in_range : dvp_out_of_range alone 0 ≡ false
   unfolding dvp_out_of_range
   dvp_in_range =
-      let e : size ≡ nat_abs (v p) = sym (size-amount (high_word (v p)) (middle_word (v p)) (low_word (v p))) ∙ ap nat_abs (amount_back (v p) (omega arith)) in
-      rw (no_spare (v p) hv) (le-ltb dvp_amount_limit size (omega arith))
+      let e : size ≡ nat_abs z = sym (size-amount (high_word z) (middle_word z) (low_word z)) ∙ ap nat_abs (amount_back z (omega arith)) in
+      rw (no_spare z hz) (le-ltb dvp_amount_limit size (omega arith))
 
   pub ranges_right : (j : ℕ) → j < record_words → out_of_range alone 0 j ≡ false
   unfolding out_of_range
@@ -89,10 +89,10 @@ module _ (n v : ℕ → ℤ) (p : ℕ) (hp : p < position_count) (hn : nat_abs (
 
   dvp_signed : dvp_minus_zero alone 0 ≡ false
   unfolding dvp_minus_zero
-  dvp_signed = by (eqb (negative (high_word (v p))) 1) refl
+  dvp_signed = by (eqb (negative (high_word z)) 1) refl
     where
-      by : (t : Bool) → eqb (negative (high_word (v p))) 1 ≡ t → (t && eqb size 0) ≡ false
-      by true e = ne_eqb size 0 (λ q. omega (arith, no_minus-zero (v p) (omega arith) (eqb-true (negative (high_word (v p))) 1 e)))
+      by : (t : Bool) → eqb (negative (high_word z)) 1 ≡ t → (t && eqb size 0) ≡ false
+      by true e = ne_eqb size 0 (λ q. omega (arith, no_minus-zero z (omega arith) (eqb-true (negative (high_word z)) 1 e)))
       by false e = refl
 
   pub signs_right : (j : ℕ) → minus_zero alone 0 j ≡ false

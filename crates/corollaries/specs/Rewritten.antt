@@ -14,12 +14,12 @@ use Rattle.model.specs.Limits.{position_limit, dvp_amount_limit, most_records}
 use Rattle.model.specs.Words.{payload, bits, word, amount}
 use Rattle.model.specs.DayFile.{series_count, series_type, multiplier, is_option, is_security}
 use Rattle.model.specs.DayChecks.{day_check}
-use Rattle.model.specs.BatchChecks.{row23, row24, row25, row26}
+use Rattle.model.specs.BatchChecks.{key_limit, row23, row24, row25, row26}
 use Rattle.model.specs.Netting.{position_count, net, dvp}
 use Rattle.model.specs.Steps.Positions.{held}
 use Rattle.model.specs.Calls.{Accepted}
 use Rattle.model.specs.Locality.{record_at}
-use Rattle.model.specs.Rewriting.{in_order, held_records, rewritten}
+use Rattle.model.specs.Rewriting.{in_order, long_of, short_of, held_records, rewritten}
 use Rattle.model.proofs.Accepted.{DayRows, RecordRows, BatchRows, netting_rows, deposit_checked, rows_accepted}
 use Rattle.model.proofs.Cover.{no_deposits_pass}
 use Rattle.model.proofs.HeldRecords.{held_at, record_at_place, held_each, rewritten_count}
@@ -28,7 +28,7 @@ use Rattle.model.proofs.Nets.{net-sum, dvp-sum, none_outside}
 use Rattle.model.proofs.WordsBack.{payload-word, amount_back}
 use Rattle.corollaries.specs.Batches.{made_20, made_21}
 use Rattle.corollaries.specs.PositionOrder.{in_order_below}
-use Rattle.corollaries.specs.PositionRecord.{net_read, kinds_right, ranges_right, signs_right}
+use Rattle.corollaries.specs.PositionRecord.{net_read, quantities, kinds_right, ranges_right, signs_right}
 use Rattle.model.proofs.GoodRecord.{Good, bad, good_of, not_bad, good_rows}
 use Rattle.model.proofs.NettingRows.{netting_by}
 use Rattle.corollaries.specs.RewrittenRecords.{unheld_net, unheld_dvp, held_clear, summed}
@@ -97,12 +97,13 @@ module _ (d : List ℕ) (n v : ℕ → ℤ) (days : DayRows d) (t : Table d n v)
       let l = at_place i h e in
       let below = in_order_below i h in
       let keyed : payload (word 2 (in_order i)) ≡ in_order i = payload-word 2 (in_order i) (omega arith) in
-      let net_size = net-size i h e in
+      let key_size : in_order i ≤ key_limit = omega arith in
+      let sides = quantities (n (in_order i)) (net-size i h e) in
       let dvp_size = t.dvp_limit (in_order i) in
       record {
-        kinds = kinds_right n v (in_order i) below net_size dvp_size;
-        ranges = ranges_right n v (in_order i) below net_size dvp_size;
-        signs = λ j q. signs_right n v (in_order i) below net_size dvp_size j;
+        kinds = kinds_right (in_order i) (long_of (n (in_order i))) (short_of (n (in_order i))) (v (in_order i)) key_size sides.0 sides.1 dvp_size;
+        ranges = ranges_right (in_order i) (long_of (n (in_order i))) (short_of (n (in_order i))) (v (in_order i)) key_size sides.0 sides.1 dvp_size;
+        signs = λ j q. signs_right (in_order i) (long_of (n (in_order i))) (short_of (n (in_order i))) (v (in_order i)) key_size sides.0 sides.1 dvp_size j;
         at23 = rw keyed (lt-leb (series_count d) (bits (in_order i) 0 8) l.placed);
         at24 = rw keyed l.option;
         at25 = rw keyed l.security;

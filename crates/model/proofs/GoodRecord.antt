@@ -80,27 +80,28 @@ module _ (t : List ℕ → Bool) (b : List ℕ) where
       first_clear (λ r. t (record_at b r)) (record_count b)
       (nothing_hit (first_bad (λ r. t (record_at b r)) (record_count b)) (hit_any t (record_count b) (record_at b) ∙ e))
 
-module _ (d b : List ℕ) where
-  -- the tests of word j of record r read that record alone
-  own_kind : (r j : ℕ) → j < record_words → wrong_kind (0 ∷ record_at b r) 0 j ≡ wrong_kind b r j
+-- the tests of word j of record r read that record alone
+module _ (b : List ℕ) where
+  pub own_kind : (r j : ℕ) → j < record_words → wrong_kind (0 ∷ record_at b r) 0 j ≡ wrong_kind b r j
   unfolding wrong_kind
   own_kind r j h = ap (λ w. not (eqb (kind w) (record_kind j))) (own_word b r j h)
 
-  own_range : (r j : ℕ) → j < record_words → out_of_range (0 ∷ record_at b r) 0 j ≡ out_of_range b r j
+  pub own_range : (r j : ℕ) → j < record_words → out_of_range (0 ∷ record_at b r) 0 j ≡ out_of_range b r j
   unfolding out_of_range dvp_out_of_range
   own_range r j h = ap (λ w. ltb (record_limit j) (payload w) || (eqb j 3 && dvp_out_of_range b r)) (own_word b r j h)
 
-  own_sign : (r j : ℕ) → minus_zero (0 ∷ record_at b r) 0 j ≡ minus_zero b r j
+  pub own_sign : (r j : ℕ) → minus_zero (0 ∷ record_at b r) 0 j ≡ minus_zero b r j
   unfolding minus_zero dvp_minus_zero
   own_sign r j = refl
 
+module _ (d b : List ℕ) where
   pub rows_good : RecordRows d b → (r : ℕ) → r < record_count b → Good d (record_at b r)
   unfolding row22 row27 row28 row23 row24 row25 row26
   rows_good rows r h =
       record {
-        kinds = λ j l. own_kind r j l ∙ words_clear (wrong_kind b) (record_count b) rows.at22 r j h l;
-        ranges = λ j l. own_range r j l ∙ words_clear (out_of_range b) (record_count b) rows.at27 r j h l;
-        signs = λ j l. own_sign r j ∙ words_clear (minus_zero b) (record_count b) rows.at28 r j h l;
+        kinds = λ j l. own_kind b r j l ∙ words_clear (wrong_kind b) (record_count b) rows.at22 r j h l;
+        ranges = λ j l. own_range b r j l ∙ words_clear (out_of_range b) (record_count b) rows.at27 r j h l;
+        signs = λ j l. own_sign b r j ∙ words_clear (minus_zero b) (record_count b) rows.at28 r j h l;
         at23 = rows.at23 r h;
         at24 = rows.at24 r h;
         at25 = rows.at25 r h;
@@ -111,9 +112,9 @@ module _ (d b : List ℕ) where
   unfolding row22 row27 row28 row23 row24 row25 row26
   good_rows g =
       record {
-        at22 = words_back (wrong_kind b) (record_count b) (λ r j l q. sym (own_kind r j q) ∙ (g r l).kinds j q);
-        at27 = words_back (out_of_range b) (record_count b) (λ r j l q. sym (own_range r j q) ∙ (g r l).ranges j q);
-        at28 = words_back (minus_zero b) (record_count b) (λ r j l q. sym (own_sign r j) ∙ (g r l).signs j q);
+        at22 = words_back (wrong_kind b) (record_count b) (λ r j l q. sym (own_kind b r j q) ∙ (g r l).kinds j q);
+        at27 = words_back (out_of_range b) (record_count b) (λ r j l q. sym (own_range b r j q) ∙ (g r l).ranges j q);
+        at28 = words_back (minus_zero b) (record_count b) (λ r j l q. sym (own_sign b r j) ∙ (g r l).signs j q);
         at23 = λ r l. (g r l).at23;
         at24 = λ r l. (g r l).at24;
         at25 = λ r l. (g r l).at25;

@@ -9,6 +9,7 @@ pub mod Nets
 pub mod GoodRecord
 pub mod NettingRows
 pub mod Orders
+pub mod Headed
 pub mod HeldRecords
 pub mod Added
 pub mod Read

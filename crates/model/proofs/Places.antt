@@ -19,8 +19,8 @@ use Rattle.model.specs.declared.ClassFault.TheVariants.{ClassOrder, OffsetDiffer
 use Rattle.model.specs.declared.SeriesFault.TheVariants.{ClassAbsent, SeriesOrder, BadType}
 use Rattle.model.specs.declared.BatchHeaderFault.TheVariants.{BadBatchHeader}
 use Rattle.model.specs.declared.BatchLengthFault.TheVariants.{BadBatchLength}
-use Rattle.model.specs.declared.BatchWordsFault.{BatchWordsFault}
-use Rattle.model.specs.declared.BatchWordsFault.TheVariants.{WrongKind, OutOfRange, MinusZero}
+use Rattle.model.specs.declared.WordRow.{WordRow}
+use Rattle.model.specs.declared.WordRow.TheVariants.{Row22, Row27, Row28}
 use Rattle.model.specs.declared.PositionFault.TheVariants.{SeriesAbsent, ExercisedNonOption, FailNonSecurity, DvpNonSecurity}
 use Rattle.model.specs.declared.NettingFault.TheVariants.{NetTooLarge, DvpTooLarge, NoSpace, BadDeposit, UnlikeMultipliers, BadTrades}
 use Rattle.model.specs.declared.ReportFault.TheVariants.{TooShort}
@@ -31,7 +31,7 @@ use Rattle.model.specs.Rows.{tried, plain_row, found_row, record_row}
 use Rattle.model.specs.DayFile.{class_count, series_count}
 use Rattle.model.specs.DayChecks.{row10, row11, row12, row13, row14, row18, row15, row16, row17, class_check, series_check, record_check, day_check}
 use Rattle.model.specs.Batch.{record_count, batch_words}
-use Rattle.model.specs.BatchChecks.{row20, row21, row_of, word_row, row23, row24, row25, row26, word_check, batch_form, position_check, batch_check}
+use Rattle.model.specs.BatchChecks.{row20, row21, row_of, fault_of, word_row, row23, row24, row25, row26, word_check, batch_form, position_check, batch_check}
 use Rattle.model.specs.Netting.{net, dvp, row30, netting_check}
 use Rattle.model.specs.Deposits.{deposit_count}
 use Rattle.model.specs.DepositChecks.{odd_words, row50, row51, deposit_check}
@@ -94,10 +94,10 @@ day_low d =
 
 word_low : (b : List ℕ) → Low (word_check b)
 unfolding word_check
-word_low b = all_low _ (by WrongKind then by OutOfRange then by MinusZero then tt)
+word_low b = all_low _ (by Row22 then by Row27 then by Row28 then tt)
   where
-    by : (f : BatchWordsFault) → Low (word_row f b)
-    by f = record_low (BatchWords f) (row_of f b) (batch_words (record_count b)) (λ i. refl) (omega arith)
+    by : (w : WordRow) → Low (word_row w b (record_count b))
+    by w = record_low (BatchWords (fault_of w)) (row_of w b) (batch_words (record_count b)) (λ i. refl) (omega arith)
 
 position_low : (d b : List ℕ) → Low (position_check d b)
 unfolding position_check
@@ -109,13 +109,14 @@ position_low d b =
     then record_low (Positions DvpNonSecurity) (row26 d b) (record_count b) (λ i. refl) (omega arith)
     then tt)
 
+form_low : (b : List ℕ) → Low (batch_form b)
+unfolding batch_form
+form_low b =
+    all_low _ (plain_low (BatchHeader BadBatchHeader) (row20 b) refl then plain_low (BatchLength BadBatchLength) (row21 b) refl then word_low b then tt)
+
 batch_low : (d b : List ℕ) → Low (batch_check d b)
-unfolding batch_check batch_form
-batch_low d b =
-    all_low _
-    (all_low _ (plain_low (BatchHeader BadBatchHeader) (row20 b) refl then plain_low (BatchLength BadBatchLength) (row21 b) refl then word_low b then tt)
-    then position_low d b
-    then tt)
+unfolding batch_check
+batch_low d b = all_low _ (form_low b then position_low d b then tt)
 
 net_low : (d b : List ℕ) → Low (netting_check d b)
 unfolding netting_check

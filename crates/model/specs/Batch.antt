@@ -1,5 +1,5 @@
 -- The position batch: the fields of record r. b is the list of its words.
-use Rattle.std.specs.Prelude.{List, ◌∷◌, ℕ, ◌+◌, ◌*◌, ◌-◌, ◌/◌, ◌%◌, ℤ, get_or}
+use Rattle.std.specs.Prelude.{List, ◌∷◌, ℕ, ◌+◌, ◌*◌, ◌-◌, ◌/◌, ◌%◌, ℤ, get_or, set}
 use Rattle.model.specs.Words.{payload, bits, word, magnitude, amount, amount_words}
 
 abbrev pub batch_header : List ℕ → ℕ
@@ -7,6 +7,10 @@ batch_header b = get_or b 0 0
 
 abbrev pub record_count : List ℕ → ℕ
 record_count b = payload (batch_header b)
+
+-- the batch with another header in place of its own
+abbrev pub headed : ℕ → List ℕ → List ℕ
+headed h b = set b 0 h
 
 -- the words of a record, and of a batch of r records, behind which record r stands
 abbrev pub record_words : ℕ

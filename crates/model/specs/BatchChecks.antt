@@ -5,6 +5,8 @@ use Rattle.model.specs.declared.BatchHeaderFault.TheVariants.{BadBatchHeader}
 use Rattle.model.specs.declared.BatchLengthFault.TheVariants.{BadBatchLength}
 use Rattle.model.specs.declared.BatchWordsFault.{BatchWordsFault}
 use Rattle.model.specs.declared.BatchWordsFault.TheVariants.{WrongKind, OutOfRange, MinusZero}
+use Rattle.model.specs.declared.WordRow.{WordRow}
+use Rattle.model.specs.declared.WordRow.TheVariants.{Row22, Row27, Row28}
 use Rattle.model.specs.declared.PositionFault.TheVariants.{SeriesAbsent, ExercisedNonOption, FailNonSecurity, DvpNonSecurity}
 use Rattle.model.specs.Outcomes.{Verdict}
 use Rattle.model.specs.Limits.{quantity_limit, dvp_amount_limit, most_records}
@@ -67,14 +69,23 @@ row27 b = at_word (out_of_range b)
 unfoldable pub row28 : List ℕ → ℕ → Bool
 row28 b = at_word (minus_zero b)
 
--- the three by their reason, and each over all words
-abbrev pub row_of : BatchWordsFault → List ℕ → ℕ → Bool
-row_of WrongKind = row22
-row_of OutOfRange = row27
-row_of MinusZero = row28
+-- the tests of the three, and their reasons
+abbrev pub row_of : WordRow → List ℕ → ℕ → Bool
+row_of Row22 = row22
+row_of Row27 = row27
+row_of Row28 = row28
 
-abbrev pub word_row : BatchWordsFault → List ℕ → Verdict
-word_row f b = record_row (BatchWords f) (row_of f b) (batch_words (record_count b))
+abbrev pub fault_of : WordRow → BatchWordsFault
+fault_of Row22 = WrongKind
+fault_of Row27 = OutOfRange
+fault_of Row28 = MinusZero
+
+-- each over all words of n records, and all three
+abbrev pub word_row : WordRow → List ℕ → ℕ → Verdict
+word_row w b n = record_row (BatchWords (fault_of w)) (row_of w b) (batch_words n)
+
+abbrev pub words_check : List ℕ → ℕ → Verdict
+words_check b n = tried (word_row Row22 b n ∷ word_row Row27 b n ∷ word_row Row28 b n ∷ [])
 
 -- ---- the records
 
@@ -98,7 +109,7 @@ row26 d b r = ltb 0 (nat_abs (dvp_amount b r)) && not (is_security (series_type 
 
 -- the stage of the words
 unfoldable pub word_check : List ℕ → Verdict
-word_check b = tried (word_row WrongKind b ∷ word_row OutOfRange b ∷ word_row MinusZero b ∷ [])
+word_check b = words_check b (record_count b)
 
 -- those that need no day file
 unfoldable pub batch_form : List ℕ → Verdict

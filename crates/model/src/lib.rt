@@ -81,6 +81,14 @@ pub enum BatchWordsFault {
     MinusZero = 28,
 }
 
+// The rows of a batch's words: those of the stage that every call with a batch tries, and that name a word.
+#[derive(Clone, Copy)]
+pub enum WordRow {
+    Row22,
+    Row27,
+    Row28,
+}
+
 // Rows 23 to 26.
 #[derive(Clone, Copy)]
 pub enum PositionFault {

@@ -6,4 +6,4 @@ use Rattle.model.specs.BatchChecks.{row_of}
 use Rattle.batch_words.proofs.first_in_batch.Given as goal
 
 abbrev pub invariant-loop-r : goal.invariant-loop-r
-invariant-loop-r l = first_bad (row_of l.fault l.fn.batch.words.now) (batch_words l.r) ≡ None
+invariant-loop-r l = first_bad (row_of l.row l.fn.batch) (batch_words l.r) ≡ None

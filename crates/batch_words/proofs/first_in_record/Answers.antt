@@ -7,4 +7,4 @@ use Rattle.batch_words.proofs.first_in_record.Goals as goal
 pub returns : goal.returns
 returns c =
     let a = c.args.r.now in
-    find_below _ (λ j. row_of c.args.fault a.batch.now (batch_words a.index + j)) c.find.ensures.ran (λ x v q k. search rules) refl
+    find_below _ (λ j. row_of c.args.row a.batch.now (batch_words a.index + j)) c.find.ensures.ran (λ x v q k. search rules) refl

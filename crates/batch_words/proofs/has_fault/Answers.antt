@@ -2,20 +2,20 @@ use Rattle.model.specs.BatchChecks.{wrong_kind, out_of_range, minus_zero, row22,
 use Rattle.model.proofs.BatchWords.{at_word_lem}
 use Rattle.batch_words.proofs.has_fault.Goals as goal
 
-pub returns-in-WrongKind : goal.returns-in-WrongKind
+pub returns-in-Row22 : goal.returns-in-Row22
 unfolding row22
-returns-in-WrongKind c =
+returns-in-Row22 c =
     let r = c.args.r.now in
-    rw (c.in-WrongKind.is, at_word_lem (wrong_kind r.batch.now) r.index c.args.j c.requires, c.wrong_kind.ensures)
+    rw (c.in-Row22.is, at_word_lem (wrong_kind r.batch.now) r.index c.args.j c.requires, c.wrong_kind.ensures)
 
-pub returns-in-OutOfRange : goal.returns-in-OutOfRange
+pub returns-in-Row27 : goal.returns-in-Row27
 unfolding row27
-returns-in-OutOfRange c =
+returns-in-Row27 c =
     let r = c.args.r.now in
-    rw (c.in-OutOfRange.is, at_word_lem (out_of_range r.batch.now) r.index c.args.j c.requires, c.out_of_range.ensures)
+    rw (c.in-Row27.is, at_word_lem (out_of_range r.batch.now) r.index c.args.j c.requires, c.out_of_range.ensures)
 
-pub returns-in-MinusZero : goal.returns-in-MinusZero
+pub returns-in-Row28 : goal.returns-in-Row28
 unfolding row28
-returns-in-MinusZero c =
+returns-in-Row28 c =
     let r = c.args.r.now in
-    rw (c.in-MinusZero.is, at_word_lem (minus_zero r.batch.now) r.index c.args.j c.requires, c.minus_zero.ensures)
+    rw (c.in-Row28.is, at_word_lem (minus_zero r.batch.now) r.index c.args.j c.requires, c.minus_zero.ensures)

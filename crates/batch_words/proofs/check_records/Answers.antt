@@ -1,11 +1,8 @@
 use Rattle.std.proofs.Common.{rules}
-use Rattle.numbers.specs.Scan.{first_bad}
-use Rattle.record_words.specs.BadRecord.{bad_record}
-use Rattle.batch_words.proofs.check_words.Goals as goal
+use Rattle.batch_words.proofs.check_records.Goals as goal
 use Rattle.batch_words.specs.Clear.{words_pass}
 use Rattle.numbers.specs.Scan.{first-front}
 use Rattle.numbers.specs.Scan.{first_at}
-use Rattle.std.proofs.Common.{ap}
 use Rattle.std.proofs.Common.{sym}
 use Rattle.std.proofs.Common.{◌∙◌}
 
@@ -26,4 +23,4 @@ check_rows-requires-clause-from_value c =
 pub returns-in-None : goal.returns-in-None
 returns-in-None c =
     let s = c.args in
-    sym (words_pass s.batch.now.words.now (ap (first_bad (bad_record s.batch.now.words.now)) (sym c.record_count.ensures) ∙ sym c.first_bad_record.ensures ∙ c.in-None.is))
+    sym (words_pass s.batch.now s.count (sym c.first_bad_record.ensures ∙ c.in-None.is))
