@@ -18,6 +18,7 @@ pub mod RewritingOnly
 pub mod RewritingClaims
 pub mod PositionOrder
 pub mod PositionRecord
+pub mod RightRecords
 pub mod RewrittenRecords
 pub mod Rewritten
 pub mod FewHeld
@@ -30,6 +31,10 @@ pub mod AddedBatch
 pub mod AddingRows
 pub mod AddingAlike
 pub mod Adding
+pub mod CentsClaims
+pub mod OtherAmounts
+pub mod InCents
+pub mod Conversions
 pub mod NamedWord
 pub mod Numbers
 pub mod RefusalNumbers

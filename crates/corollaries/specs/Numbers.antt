@@ -12,7 +12,10 @@ use Rattle.model.specs.Bytes.{words_of, bytes_check, byte_answer}
 use Rattle.model.specs.Rewriting.{rewriting, added}
 use Rattle.model.specs.RewritingChecks.{rewrite_check, add_check}
 use Rattle.model.specs.RewritingCalls.{rewrite_answer, add_answer}
-use Rattle.model.proofs.Places.{value_small, byte_value_small, rewrite_value_small, add_value_small}
+use Rattle.model.specs.Cents.{to_cents, from_cents}
+use Rattle.model.specs.CentsChecks.{to_cents_check, from_cents_check}
+use Rattle.model.specs.CentsCalls.{to_cents_answer, from_cents_answer}
+use Rattle.model.proofs.Places.{value_small, byte_value_small, rewrite_value_small, add_value_small, to_cents_value_small, from_cents_value_small}
 
 -- a the answer of a call whose rows above 40 say v, that has n words to write, and whose memory has room for so many
 pub record Numbers (v : Verdict) (n room : ℕ) (a : Answer) : Type 0 where
@@ -53,6 +56,14 @@ rewrite_numbers d b room = numbers_of_lem (length (rewriting b)) room (rewrite_c
 pub add_numbers : (d b w : List ℕ) (room : ℕ) → Numbers (add_check d b w) (length (rewriting (added b w))) room (add_answer d b w room)
 unfolding add_answer
 add_numbers d b w room = numbers_of_lem (length (rewriting (added b w))) room (add_check d b w) (add_value_small d b w room)
+
+pub to_cents_numbers : (b : List ℕ) (room : ℕ) → Numbers (to_cents_check b) (length (to_cents b)) room (to_cents_answer b room)
+unfolding to_cents_answer
+to_cents_numbers b room = numbers_of_lem (length (to_cents b)) room (to_cents_check b) (to_cents_value_small b room)
+
+pub from_cents_numbers : (b : List ℕ) (room : ℕ) → Numbers (from_cents_check b) (length (from_cents b)) room (from_cents_answer b room)
+unfolding from_cents_answer
+from_cents_numbers b room = numbers_of_lem (length (from_cents b)) room (from_cents_check b) (from_cents_value_small b room)
 
 pub byte_numbers : (day b : List ℕ) (room : ℕ)
     → Numbers (bytes_check day b or_else verdict (words_of day) (words_of b) []) (needed (words_of day) (words_of b)) (room / 4) (byte_answer day b room)

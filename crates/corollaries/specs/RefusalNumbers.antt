@@ -6,7 +6,7 @@ use Rattle.model.specs.declared.Check.TheVariants.{Bytes, DayHeader, DayLength, 
 use Rattle.model.specs.declared.BytesFault.TheVariants.{DayFile, BatchFile}
 use Rattle.model.specs.declared.ClassFault.TheVariants.{ClassOrder, OffsetDiffers, PriceOrder}
 use Rattle.model.specs.declared.SeriesFault.TheVariants.{ClassAbsent, SeriesOrder, BadType}
-use Rattle.model.specs.declared.BatchWordsFault.TheVariants.{WrongKind, OutOfRange, MinusZero}
+use Rattle.model.specs.declared.BatchWordsFault.TheVariants.{WrongKind, OutOfRange, MinusZero, NotWholeCents, CentsTooLarge}
 use Rattle.model.specs.declared.PositionFault.TheVariants.{SeriesAbsent, ExercisedNonOption, FailNonSecurity, DvpNonSecurity}
 use Rattle.model.specs.declared.NettingFault.TheVariants.{NetTooLarge, DvpTooLarge, NoSpace, BadDeposit, UnlikeMultipliers, BadTrades}
 use Rattle.model.specs.declared.AccountsFault.TheVariants.{BadLengths, ShortResults}
@@ -29,6 +29,8 @@ numbered (BatchLength f p) = (omega arith, omega arith)
 numbered (BatchWords WrongKind p) = (omega arith, omega arith)
 numbered (BatchWords OutOfRange p) = (omega arith, omega arith)
 numbered (BatchWords MinusZero p) = (omega arith, omega arith)
+numbered (BatchWords NotWholeCents p) = (omega arith, omega arith)
+numbered (BatchWords CentsTooLarge p) = (omega arith, omega arith)
 numbered (Positions SeriesAbsent p) = (omega arith, omega arith)
 numbered (Positions ExercisedNonOption p) = (omega arith, omega arith)
 numbered (Positions FailNonSecurity p) = (omega arith, omega arith)

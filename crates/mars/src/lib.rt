@@ -1,5 +1,5 @@
 // What the C entries answer: the report of two files given as bytes; of files and deposits given as words; the reports of all accounts of
-// a broker; a batch rewritten, and with a record more; the worst moment of a day; a printed text read back.
+// a broker; a batch rewritten, and with a record more; the worst moment of a day; a batch in cents, and back; a printed text read back.
 #![tactic(auto)]
 
 ghost use Rattle.std.specs.Prelude.{◌≡◌, ◌+◌, ◌*◌, ◌^◌, length};
@@ -9,6 +9,7 @@ ghost use Rattle.model.specs.Calls.{answer, memory_after};
 ghost use Rattle.model.specs.ManyAccounts.{reports_answer, results_after, reports_after};
 ghost use Rattle.model.specs.RewritingCalls.{rewrite_answer, rewrite_after, add_answer, add_after};
 ghost use Rattle.model.specs.WorstMoment.{worst_answer, value_0, part_after};
+ghost use Rattle.model.specs.CentsCalls.{to_cents_answer, to_cents_after, from_cents_answer, from_cents_after};
 ghost use Rattle.model.specs.TextReading.{text_says, text_number, text_value, total_after};
 
 use answers::NUMBER_UNIT;
@@ -97,6 +98,24 @@ pub fn mars_worst_moment(
         }
         Err(check) => answers::packed(Err(check)),
     }
+}
+
+// Number × 2^32 + value: 0 and the length of the batch in cents, or the refusal's number and place.
+#[tactic(auto, using(model::proofs::Places::to_cents_value_small))]
+pub fn mars_to_cents(batch: &[u32], out: &mut [u32]) -> u64
+    ensures result { result ≡ packed (to_cents_answer batch.now (length out.old)) }
+    ensures out { out.new ≡ to_cents_after batch.now out.old }
+{
+    answers::packed(cents::to_cents(batch, out))
+}
+
+// The same of a batch in cents brought back.
+#[tactic(auto, using(model::proofs::Places::from_cents_value_small))]
+pub fn mars_from_cents(batch: &[u32], out: &mut [u32]) -> u64
+    ensures result { result ≡ packed (from_cents_answer batch.now (length out.old)) }
+    ensures out { out.new ≡ from_cents_after batch.now out.old }
+{
+    answers::packed(cents::from_cents(batch, out))
 }
 
 // Number × 2^32 + value: 0 and the line count of a printed report, whose totals are stored, a refusal's number and place, or

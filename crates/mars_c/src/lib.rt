@@ -8,6 +8,7 @@ ghost use Rattle.model.specs.Calls.{answer, memory_after};
 ghost use Rattle.model.specs.ManyAccounts.{reports_answer, results_after, reports_after};
 ghost use Rattle.model.specs.RewritingCalls.{rewrite_answer, rewrite_after, add_answer, add_after};
 ghost use Rattle.model.specs.WorstMoment.{worst_answer, value_0, part_after};
+ghost use Rattle.model.specs.CentsCalls.{to_cents_answer, to_cents_after, from_cents_answer, from_cents_after};
 ghost use Rattle.model.specs.TextReading.{text_says, text_number, text_value, total_after};
 
 // Number × 2^32 + value: 0 and the report's length in words, or the refusal's number and place.
@@ -90,6 +91,24 @@ pub extern "C" fn mars_worst_moment(
     ensures left_out { left_out.new ≡ part_after (λ m. m.left_out) (worst_answer day.now batch.now trades.now) left_out.old }
 {
     mars::mars_worst_moment(day, batch, trades, margin, step, applied, left_out)
+}
+
+// Number × 2^32 + value: 0 and the length of the batch in cents, or the refusal's number and place.
+#[unsafe(no_mangle)]
+pub extern "C" fn mars_to_cents(batch: &[u32], out: &mut [u32]) -> u64
+    ensures result { result ≡ packed (to_cents_answer batch.now (length out.old)) }
+    ensures out { out.new ≡ to_cents_after batch.now out.old }
+{
+    mars::mars_to_cents(batch, out)
+}
+
+// The same of a batch in cents brought back.
+#[unsafe(no_mangle)]
+pub extern "C" fn mars_from_cents(batch: &[u32], out: &mut [u32]) -> u64
+    ensures result { result ≡ packed (from_cents_answer batch.now (length out.old)) }
+    ensures out { out.new ≡ from_cents_after batch.now out.old }
+{
+    mars::mars_from_cents(batch, out)
 }
 
 // Number × 2^32 + value: 0 and the line count of a printed report, whose totals are stored, a refusal's number and place, or

@@ -1,4 +1,4 @@
--- The definitions against worked figures, in one place: M1 to M9, the accounts on which seen mistakes show, what none of these shows, a refusal of each row, the call for many accounts, the short option adjustment, deposits, offsets, projected prices out of order, expired futures, and the worst moment of a day.
+-- The definitions against worked figures, in one place: M1 to M9, the accounts on which seen mistakes show, what none of these shows, a refusal of each row, the call for many accounts, the short option adjustment, deposits, offsets, projected prices out of order, expired futures, the worst moment of a day, and batches in cents.
 use mathlib.Core.Path.{◌≡◌}
 use Rattle.model.specs.Accounts.{all_computed, all_published}
 use Rattle.model.specs.Figures.{figures, figures_agree}
@@ -12,6 +12,7 @@ use Rattle.model.specs.OffsetFigures.{offset_figures, offset-figures_agree}
 use Rattle.model.specs.ProjectedFigures.{projected_figures, projected-figures_agree}
 use Rattle.model.specs.ExpiredFigures.{expired_rows, expired-rows_agree}
 use Rattle.model.specs.WorstMomentFigures.{worst_moments, worst-moments_agree}
+use Rattle.model.specs.CentsFigures.{cents_rows, cents-rows_agree}
 
 pub record Agreement : Type 0 where
   pub scope : all_computed figures ≡ all_published figures
@@ -25,6 +26,7 @@ pub record Agreement : Type 0 where
   pub projected : all_computed projected_figures ≡ all_published projected_figures
   pub expired : all_computed expired_rows ≡ all_published expired_rows
   pub worst : all_computed worst_moments ≡ all_published worst_moments
+  pub in_cents : all_computed cents_rows ≡ all_published cents_rows
 
 pub agreement : Agreement
 agreement =
@@ -40,4 +42,5 @@ agreement =
       projected = projected-figures_agree;
       expired = expired-rows_agree;
       worst = worst-moments_agree;
+      in_cents = cents-rows_agree;
     }

@@ -10,6 +10,7 @@ pub mod GoodRecord
 pub mod NettingRows
 pub mod Orders
 pub mod Headed
+pub mod Cents
 pub mod HeldRecords
 pub mod Added
 pub mod Read

@@ -20,7 +20,8 @@ use Rattle.model.specs.Batch.{batch_header, record_count, record_words, batch_wo
 use Rattle.model.specs.BatchChecks.{record_limit, dvp_out_of_range, out_of_range, row20, row21, row27, row23, batch_form}
 use Rattle.model.specs.Netting.{net, row30}
 use Rattle.numbers.specs.Tests.{or_left, or_right}
-use Rattle.model.specs.declared.Check.TheVariants.{BatchLength}
+use Rattle.model.specs.declared.Check.TheVariants.{BatchHeader, BatchLength}
+use Rattle.model.specs.declared.BatchHeaderFault.TheVariants.{BadBatchHeader}
 use Rattle.model.specs.declared.BatchLengthFault.TheVariants.{BadBatchLength}
 use Rattle.model.proofs.Verdicts.{tried-passed}
 use Rattle.model.proofs.Accepted.{plain_clear, DayRows, RecordRows, BatchChecks, BatchRows}
@@ -120,6 +121,11 @@ row21-length b e = eqb-true (length b) (batch_words (record_count b)) (not-false
 pub form_length : (b : List ℕ) → batch_form b ≡ Ok tt → length b ≡ batch_words (record_count b)
 unfolding batch_form
 form_length b e = row21-length b (plain_clear (BatchLength BadBatchLength) _ (tried-passed _ e).1.0)
+
+-- .. and few records
+pub form_count : (b : List ℕ) → batch_form b ≡ Ok tt → record_count b ≤ most_records
+unfolding batch_form
+form_count b e = row20_count b (plain_clear (BatchHeader BadBatchHeader) _ (tried-passed _ e).0)
 
 module _ (d b : List ℕ) (r : BatchChecks d b) where
   pub few_records : record_count b ≤ most_records

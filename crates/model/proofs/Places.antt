@@ -1,11 +1,13 @@
 -- The value of every answer, a length or a place, is below 2 ^ 32.
 use Rattle.std.specs.Prelude.{Option, Some, None, Ok, Err}
 use mathlib.Core.Path.{◌≡◌, refl}
-use mathlib.Core.Bool.{Bool, true, false, cond}
+use mathlib.Core.Bool.{Bool, true, false, not, cond}
 use mathlib.Core.List.{List, [], ◌∷◌}
 use Prim.Native.Nat.{ℕ, ◌+◌, ◌/◌, ◌^◌, ◌<◌}
 use native.Mathlib.Omega.{arith}
 use lib.Dec.{leb}
+use lib.IntN.{ℤ, pos, ◌*ℤ◌}
+use Rattle.std.specs.Int.Signed.{quot_z}
 use lib.ListN.{length}
 use Rattle.numbers.specs.Scan.{first_bad, first_at, first-before}
 use Rattle.model.specs.Outcomes.{Answer}
@@ -19,6 +21,7 @@ use Rattle.model.specs.declared.ClassFault.TheVariants.{ClassOrder, OffsetDiffer
 use Rattle.model.specs.declared.SeriesFault.TheVariants.{ClassAbsent, SeriesOrder, BadType}
 use Rattle.model.specs.declared.BatchHeaderFault.TheVariants.{BadBatchHeader}
 use Rattle.model.specs.declared.BatchLengthFault.TheVariants.{BadBatchLength}
+use Rattle.model.specs.declared.BatchWordsFault.TheVariants.{NotWholeCents, CentsTooLarge}
 use Rattle.model.specs.declared.WordRow.{WordRow}
 use Rattle.model.specs.declared.WordRow.TheVariants.{Row22, Row27, Row28}
 use Rattle.model.specs.declared.PositionFault.TheVariants.{SeriesAbsent, ExercisedNonOption, FailNonSecurity, DvpNonSecurity}
@@ -30,7 +33,7 @@ use Rattle.model.specs.Answers.{place_of, value_of}
 use Rattle.model.specs.Rows.{tried, plain_row, found_row, record_row}
 use Rattle.model.specs.DayFile.{class_count, series_count}
 use Rattle.model.specs.DayChecks.{row10, row11, row12, row13, row14, row18, row15, row16, row17, class_check, series_check, record_check, day_check}
-use Rattle.model.specs.Batch.{record_count, batch_words}
+use Rattle.model.specs.Batch.{batch_header, record_count, batch_words}
 use Rattle.model.specs.BatchChecks.{row20, row21, row_of, fault_of, word_row, row23, row24, row25, row26, word_check, batch_form, position_check, batch_check}
 use Rattle.model.specs.Netting.{net, dvp, row30, netting_check}
 use Rattle.model.specs.Deposits.{deposit_count}
@@ -41,9 +44,14 @@ use Rattle.model.specs.RewritingChecks.{row31, row32, dvp_check, space_check, re
 use Rattle.model.specs.RewritingCalls.{rewrite_answer, add_answer}
 use Rattle.model.specs.declared.Moment.{Moment}
 use Rattle.model.specs.WorstMoment.{row62, worst_check, moment, moment_answer, worst_answer, value_0}
+use Rattle.model.specs.Cents.{is_in_cents, cents_bit, unmarked, cent, with_amounts, to_cents, from_cents}
+use Rattle.model.specs.CentsChecks.{row33, row34, to_cents_check, from_cents_check}
+use Rattle.model.specs.CentsCalls.{to_cents_answer, from_cents_answer}
 use Rattle.model.specs.Bytes.{words_of, row1, row2, bytes_check, byte_answer}
 use Rattle.model.specs.ManyAccounts.{batch_of, row60, row61, accounts_check, report_start, reports_answer}
 use Rattle.model.proofs.Accepted.{clear}
+use Rattle.model.proofs.Cents.{converted_length}
+use Rattle.model.proofs.Headed.{headed_length}
 use Rattle.model.proofs.DepositOrders.{few_passed}
 use Rattle.model.proofs.Outcome.{needed_most}
 use Rattle.model.proofs.HeldRecords.{held_most, rewritten_length}
@@ -225,3 +233,30 @@ moment_low (Err k) m p = p.low
 pub worst_value_small : (d b t : List ℕ) → value_of (value_0 (worst_answer d b t)) < 2 ^ 32
 unfolding worst_answer worst_check
 worst_value_small d b t = moment_low _ (moment d b t) (all_low _ (rewrite_low d b then plain_low (Netting BadTrades) (row62 t) refl then tt))
+
+-- ---- a batch in cents
+
+-- a batch with other amounts has as many words as its records
+amounts_small : (f : ℤ → ℤ) (b : List ℕ) → length (with_amounts f b) < 2 ^ 32
+unfolding with_amounts
+amounts_small f b = omega (arith, converted_length f b (batch_header b) (record_count b))
+
+pub to_cents_value_small : (b : List ℕ) (room : ℕ) → value_of (to_cents_answer b room) < 2 ^ 32
+unfolding to_cents_answer to_cents_check
+to_cents_value_small b room =
+    answer_low _ (room_answer (length (to_cents b)) room)
+    (all_low _ (form_low b then record_low (BatchWords NotWholeCents) (row33 b) (record_count b) (λ i. refl) (omega arith) then tt))
+    (λ e.
+    let c = with_amounts (λ z. quot_z z (pos cent)) b in
+    room_low (length (to_cents b)) room (omega (arith, headed_length (batch_header c + cents_bit) c, amounts_small (λ z. quot_z z (pos cent)) b)))
+
+pub from_cents_value_small : (b : List ℕ) (room : ℕ) → value_of (from_cents_answer b room) < 2 ^ 32
+unfolding from_cents_answer from_cents_check
+from_cents_value_small b room =
+    answer_low _ (room_answer (length (from_cents b)) room)
+    (all_low _
+    (plain_low (BatchHeader BadBatchHeader) (not (is_in_cents b)) refl
+    then form_low (unmarked b)
+    then record_low (BatchWords CentsTooLarge) (row34 (unmarked b)) (record_count (unmarked b)) (λ i. refl) (omega arith)
+    then tt))
+    (λ e. room_low (length (from_cents b)) room (omega (arith, amounts_small (λ z. z *ℤ pos cent) (unmarked b))))

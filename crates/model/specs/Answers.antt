@@ -6,7 +6,7 @@ use Rattle.model.specs.declared.Check.TheVariants.{Bytes, DayHeader, DayLength, 
 use Rattle.model.specs.declared.BytesFault.TheVariants.{DayFile, BatchFile}
 use Rattle.model.specs.declared.ClassFault.TheVariants.{ClassOrder, OffsetDiffers, PriceOrder}
 use Rattle.model.specs.declared.SeriesFault.TheVariants.{ClassAbsent, SeriesOrder, BadType}
-use Rattle.model.specs.declared.BatchWordsFault.TheVariants.{WrongKind, OutOfRange, MinusZero}
+use Rattle.model.specs.declared.BatchWordsFault.TheVariants.{WrongKind, OutOfRange, MinusZero, NotWholeCents, CentsTooLarge}
 use Rattle.model.specs.declared.PositionFault.TheVariants.{SeriesAbsent, ExercisedNonOption, FailNonSecurity, DvpNonSecurity}
 use Rattle.model.specs.declared.NettingFault.TheVariants.{NetTooLarge, DvpTooLarge, NoSpace, BadDeposit, UnlikeMultipliers, BadTrades}
 use Rattle.model.specs.declared.AccountsFault.TheVariants.{BadLengths, ShortResults}
@@ -28,6 +28,8 @@ number_of (BatchLength f p) = 21
 number_of (BatchWords WrongKind p) = 22
 number_of (BatchWords OutOfRange p) = 27
 number_of (BatchWords MinusZero p) = 28
+number_of (BatchWords NotWholeCents p) = 33
+number_of (BatchWords CentsTooLarge p) = 34
 number_of (Positions SeriesAbsent p) = 23
 number_of (Positions ExercisedNonOption p) = 24
 number_of (Positions FailNonSecurity p) = 25

@@ -17,6 +17,9 @@ pub mod Rewriting
 pub mod RewritingChecks
 pub mod RewritingCalls
 pub mod WorstMoment
+pub mod Cents
+pub mod CentsChecks
+pub mod CentsCalls
 pub mod Bytes
 pub mod ManyAccounts
 pub mod Reading
@@ -38,5 +41,6 @@ pub mod ProjectedFigures
 pub mod ExpiredFigures
 pub mod RewritingFigures
 pub mod WorstMomentFigures
+pub mod CentsFigures
 pub mod Ascii
 pub mod Texts

@@ -13,6 +13,10 @@ quantity_limit = 10000000
 abbrev pub dvp_amount_limit : ℕ
 dvp_amount_limit = 5000000000000000
 
+-- .. and of one in cents (U11)
+abbrev pub cents_limit : ℕ
+cents_limit = 50000000000000
+
 -- the shares of a deposit
 abbrev pub shares_limit : ℕ
 shares_limit = 10000000

@@ -73,12 +73,14 @@ pub enum BatchLengthFault {
     BadBatchLength = 21,
 }
 
-// Rows 22, 27 and 28.
+// Rows 22, 27, 28, 33 and 34.
 #[derive(Clone, Copy)]
 pub enum BatchWordsFault {
     WrongKind = 22,
     OutOfRange = 27,
     MinusZero = 28,
+    NotWholeCents = 33,
+    CentsTooLarge = 34,
 }
 
 // The rows of a batch's words: those of the stage that every call with a batch tries, and that name a word.
