@@ -15,7 +15,8 @@
  * All three memories are runs of 32-bit words, low byte first. Over arrays of uint32_t, mars_report_words does the same and
  * takes deposits of shares against short futures, and mars_reports does it for many batches in one call. mars_rewrite makes
  * of a batch the one with a record for each position, and mars_add_record the same with a record added. mars_worst_moment adds
- * a day's trades to a batch one by one and says when its margin was highest.
+ * a day's trades to a batch one by one and says when its margin was highest. mars_to_cents converts a batch into the edition that
+ * has DVP amounts in euro cents, and mars_from_cents back.
  */
 #ifndef MARS_H
 #define MARS_H
@@ -181,6 +182,42 @@ uint64_t mars_worst_moment(const uint32_t *day, size_t day_len, const uint32_t *
                            uint32_t *left_out);
 
 /*
+ * Converts a batch into the edition that has DVP amounts in euro cents and marks it by MARS_BATCH_CENTS in the header. Of all
+ * calls mars_from_cents alone takes that edition: to the others the bit is MARS_BATCH_HEADER.
+ *
+ * batch        The batch's words. No day file is read: any series place is converted, and any series may have a DVP amount.
+ * out          The batch in cents: the header with the bit, then of each record the key and the quantities as they are and the
+ *              DVP amount divided by 100. Words past it remain. MARS_BATCH_BYTES / 4 words are always enough.
+ * *_len        Lengths in words. Any length is allowed, zero too.
+ * Pointers     Not NULL, not even with length zero; aligned as a uint32_t. out does not overlap batch, so that a batch is not
+ *              converted in its own place, and nothing may write to batch while the call runs.
+ *
+ * Result       mars_number is 0, and mars_value the words written, as many as batch has.
+ *              Otherwise mars_number is that of a refusal that looks at the batch's words alone, of MARS_BATCH_HEADER to
+ *              MARS_BATCH_MINUS_ZERO, then MARS_NOT_WHOLE_CENTS, then MARS_SHORT_REPORT, here of out, and mars_value its place,
+ *              or the words needed. MARS_BATCH_HEADER also tells that the bit is there already. out is then unchanged.
+ *
+ * Threads      The call keeps no state. It may run in any threads at once as long as their memories out are distinct.
+ */
+#define MARS_BATCH_CENTS (1u << 28)
+uint64_t mars_to_cents(const uint32_t *batch, size_t batch_len, uint32_t *out, size_t out_len);
+
+/*
+ * Converts a batch in cents back: clears the bit and multiplies each DVP amount by 100. A batch converted to cents and back is
+ * the original, and so is one in cents converted back and to cents again.
+ *
+ * batch        The words of a batch in cents.
+ * out          The batch with DVP amounts as the other calls read them.
+ * *_len, Pointers, Threads
+ *              As of mars_to_cents.
+ *
+ * Result       As of mars_to_cents, but MARS_BATCH_HEADER tells that the bit is missing, and MARS_CENTS_LIMIT comes in the place
+ *              of MARS_NOT_WHOLE_CENTS. An amount above 100 x MARS_MOST_CENTS in size is MARS_BATCH_RANGE, as in any batch.
+ */
+#define MARS_MOST_CENTS 50000000000000
+uint64_t mars_from_cents(const uint32_t *batch, size_t batch_len, uint32_t *out, size_t out_len);
+
+/*
  * Reads back a text that the report program printed.
  *
  * text         Read during the call only, never written or kept. Any bytes are allowed.
@@ -203,9 +240,11 @@ uint64_t mars_read_text(const uint8_t *text, size_t text_len, int64_t *ordinary,
 /* Refusals in the order in which they are tried, each over all records, words or deposits before the next: the first two by
  * mars_report alone, MARS_DVP_LIMIT by mars_rewrite, mars_add_record and mars_worst_moment, MARS_NO_SPACE by mars_add_record
  * alone, MARS_TRADES by mars_worst_moment alone, those of deposits by mars_report_words alone, MARS_SHORT_REPORT by all but
- * mars_worst_moment, the last two by mars_reports alone, before all others. */
+ * mars_worst_moment, the last two by mars_reports alone, before all others. mars_to_cents and mars_from_cents try those of a
+ * batch's header, length and words, then MARS_NOT_WHOLE_CENTS (to cents) or MARS_CENTS_LIMIT (from cents), which they alone have,
+ * then MARS_SHORT_REPORT. */
 enum mars_refusal {
-    MARS_REPORT = 0,            /* no refusal: a report, or a rewriting, was written, or a worst moment stored */
+    MARS_REPORT = 0,            /* no refusal: a report, a rewriting or a conversion was written, or a worst moment stored */
     MARS_DAY_BYTES_BAD = 1,     /* day file's length is no multiple of 4, or exceeds the longest form */
     MARS_BATCH_BYTES_BAD = 2,   /* the same of the batch */
     MARS_DAY_HEADER = 10,       /* day header: no words, wrong kind, spare bits, too many classes or series */
@@ -217,11 +256,13 @@ enum mars_refusal {
     MARS_SERIES_CLASS = 15,     /* the series' class is absent; place: series, here and in the two below */
     MARS_SERIES_ORDER = 16,     /* key, then strike, not above the series before */
     MARS_SERIES_TYPE = 17,      /* type unknown, or serial, strike, expiry or adjustment not 0 where the type has none */
-    MARS_BATCH_HEADER = 20,     /* batch header: no words, wrong kind, too many records */
+    MARS_BATCH_HEADER = 20,     /* batch header: no words, wrong kind, too many records; the bit of cents, or it is missing */
     MARS_BATCH_LENGTH = 21,     /* batch's length does not follow from its header, or a record to add is not of six words */
     MARS_BATCH_KIND = 22,       /* a word of a record: wrong kind; place: word, here and in the two below */
     MARS_BATCH_RANGE = 27,      /* spare bit or out of range; of an amount its first word */
     MARS_BATCH_MINUS_ZERO = 28, /* an amount of minus zero: its first word */
+    MARS_NOT_WHOLE_CENTS = 33,  /* a DVP amount is no multiple of 100; place: record, here and in the one below */
+    MARS_CENTS_LIMIT = 34,      /* a DVP amount in cents is above MARS_MOST_CENTS in size */
     MARS_POSITION_SERIES = 23,  /* no such series in the day file; place: record, here and below */
     MARS_POSITION_EXERCISE = 24, /* exercised or assigned, and not an option */
     MARS_POSITION_FAIL = 25,    /* a fail, and not a security */

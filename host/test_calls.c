@@ -1,6 +1,7 @@
 /* Calls at the edges: unaligned and empty inputs, short memories, memories at the border of inaccessible pages, threads;
  * bad words of a batch by record and field; prices of a class in order and not; many accounts in one call; deposits; an expired
- * future; batches rewritten and records added; a day's worst moment; printed texts read back. */
+ * future; batches rewritten and records added; a day's worst moment; batches converted to cents and back; printed texts read
+ * back. */
 #define _DEFAULT_SOURCE
 #include "mars.h"
 
@@ -688,6 +689,114 @@ static void worst_moments(const char *folder) {
     free(day_file.bytes);
 }
 
+/* ---- batches in cents */
+
+#define MOST_UNITS (100 * (int64_t)MARS_MOST_CENTS)
+
+/* Of the batch alone. */
+static uint64_t to_cents(const uint32_t *d, size_t d_len, const uint32_t *b, size_t b_len, const uint32_t *more, size_t more_len,
+                         uint32_t *out, size_t out_len) {
+    (void)d, (void)d_len, (void)more, (void)more_len;
+    return mars_to_cents(b, b_len, out, out_len);
+}
+
+static uint64_t from_cents(const uint32_t *d, size_t d_len, const uint32_t *b, size_t b_len, const uint32_t *more, size_t more_len,
+                           uint32_t *out, size_t out_len) {
+    (void)d, (void)d_len, (void)more, (void)more_len;
+    return mars_from_cents(b, b_len, out, out_len);
+}
+
+/* The record as the last of a batch in units, and in cents with its amount divided by 100. */
+static void append_both(struct words *units, struct words *in_cents, uint32_t key, uint32_t bought, uint32_t sold, int64_t cents) {
+    append(units, record(key, bought, sold, 100 * cents));
+    append(in_cents, record(key, bought, sold, cents));
+    in_cents->at[0] |= MARS_BATCH_CENTS;
+}
+
+/* The call refuses the batch with its last record's amount this one, both ways of its sign. */
+static void refuses_last(words_call *call, struct words b, int64_t dvp, uint32_t number, uint32_t place, const char *what) {
+    struct words none = {b.at, 0};
+    for (int64_t z = dvp; z >= -dvp; z -= 2 * dvp) {
+        memcpy(b.at + b.length - 3, record(0, 0, 0, z).at + MARS_DVP_HIGH, 12);
+        refuses(call, b, none, number, place, what);
+    }
+}
+
+static void cents(void) {
+    static uint32_t of_units[LONGEST_BATCH + MARS_RECORD_WORDS], of_cents[LONGEST_BATCH + MARS_RECORD_WORDS];
+    struct words none = {of_units, 0}, units = {of_units, 1}, in_cents = {of_cents, 1};
+    of_units[0] = 1u << 29;
+    of_cents[0] = 1u << 29 | MARS_BATCH_CENTS;
+    gives(to_cents, units, none, in_cents, "cents: no records");
+    gives(from_cents, in_cents, none, units, "cents: no records back");
+    refuses(to_cents, none, none, MARS_BATCH_HEADER, 0, "cents: no words");
+    refuses(from_cents, none, none, MARS_BATCH_HEADER, 0, "cents: no words back");
+
+    /* both signs, none, the limits, more than 29 bits; keys of any bits, any quantities */
+    append_both(&units, &in_cents, 0, 0, 0, -815000);
+    append_both(&units, &in_cents, 1023, 10000000, 10000000, 1);
+    append_both(&units, &in_cents, EXERCISED | 255, 1, 0, 0);
+    append_both(&units, &in_cents, FAIL | 1, 0, 1, MARS_MOST_CENTS);
+    append_both(&units, &in_cents, 7, 2, 3, -MARS_MOST_CENTS);
+    append_both(&units, &in_cents, 7, 2, 3, -(((int64_t)77777 << 29) + 1));
+    append_both(&units, &in_cents, 7, 2, 3, (int64_t)1 << 29);
+    check(in_cents.at[1 + MARS_DVP_HIGH] == (5u << 29 | 1u << 28) && in_cents.at[1 + MARS_DVP_LOW] == (6u << 29 | 815000u),
+          "cents: the example's words", 0);
+    gives(to_cents, units, none, in_cents, "cents: seven records");
+    gives(from_cents, in_cents, none, units, "cents: seven records back");
+
+    /* the bit, to every call that reads a batch */
+    refuses(to_cents, in_cents, none, MARS_BATCH_HEADER, 0, "cents: in cents already");
+    refuses(from_cents, units, none, MARS_BATCH_HEADER, 0, "cents: not in cents");
+    refuses(mars_report_words, in_cents, none, MARS_BATCH_HEADER, 0, "cents: a report");
+    refuses(rewrite, in_cents, none, MARS_BATCH_HEADER, 0, "cents: a rewriting");
+    refuses(mars_add_record, in_cents, record(0, 1, 0, 0), MARS_BATCH_HEADER, 0, "cents: a record added");
+    refuses_day(shares(), in_cents, none, MARS_BATCH_HEADER, 0, "cents: a worst moment");
+    in_cents.at[0] |= 1u << 27;
+    refuses(from_cents, in_cents, none, MARS_BATCH_HEADER, 0, "cents: a spare bit");
+    in_cents.at[0] ^= 1u << 27;
+
+    /* amounts of the last record that are no whole cents, or above a limit */
+    refuses_last(to_cents, units, 150, MARS_NOT_WHOLE_CENTS, 6, "cents: 150 units");
+    refuses_last(to_cents, units, 1, MARS_NOT_WHOLE_CENTS, 6, "cents: a unit");
+    refuses_last(to_cents, units, MOST_UNITS - 1, MARS_NOT_WHOLE_CENTS, 6, "cents: a unit below the limit");
+    refuses_last(to_cents, units, MOST_UNITS + 100, MARS_BATCH_RANGE, 1 + 6 * 6 + MARS_DVP_HIGH, "cents: a cent above the limit");
+    refuses_last(to_cents, units, (int64_t)1 << 58, MARS_BATCH_RANGE, 1 + 6 * 6 + MARS_DVP_HIGH, "cents: a high word");
+    refuses_last(from_cents, in_cents, (int64_t)1 << 58, MARS_BATCH_RANGE, 1 + 6 * 6 + MARS_DVP_HIGH, "cents: a high word back");
+    refuses_last(from_cents, in_cents, MARS_MOST_CENTS + 1, MARS_CENTS_LIMIT, 6, "cents: row 34");
+    refuses_last(from_cents, in_cents, MOST_UNITS, MARS_CENTS_LIMIT, 6, "cents: row 34 at row 27's limit");
+    refuses_last(from_cents, in_cents, MOST_UNITS + 1, MARS_BATCH_RANGE, 1 + 6 * 6 + MARS_DVP_HIGH, "cents: row 27");
+
+    /* rows of words come first, over all records: here the first record has the amount and the last the word */
+    struct words *both[] = {&units, &in_cents};
+    words_call *calls[] = {to_cents, from_cents};
+    static const uint32_t own[] = {MARS_NOT_WHOLE_CENTS, MARS_CENTS_LIMIT};
+    for (size_t i = 0; i < 2; i++) {
+        struct words b = *both[i];
+        uint32_t last = (uint32_t)b.length - MARS_RECORD_WORDS;
+        memcpy(b.at + 1, record(0, 0, 0, MARS_MOST_CENTS + 1).at, 4 * MARS_RECORD_WORDS);
+        memcpy(b.at + last, record(0, 0, 0, 0).at, 4 * MARS_RECORD_WORDS);
+        refuses(calls[i], b, none, own[i], 0, "cents: a first record");
+        b.at[last + MARS_DVP_HIGH] |= 1u << 28;
+        refuses(calls[i], b, none, MARS_BATCH_MINUS_ZERO, last + MARS_DVP_HIGH, "cents: minus zero behind it");
+        b.at[last + MARS_KEY] |= 1u << 10;
+        refuses(calls[i], b, none, MARS_BATCH_RANGE, last + MARS_KEY, "cents: a spare bit behind it");
+        b.at[last + MARS_DVP_LOW] ^= 1u << 29;
+        refuses(calls[i], b, none, MARS_BATCH_KIND, last + MARS_DVP_LOW, "cents: a kind behind it");
+        b.length--;
+        refuses(calls[i], b, none, MARS_BATCH_LENGTH, 0, "cents: a length");
+    }
+
+    /* 256 records, and 257 */
+    units.length = in_cents.length = 1;
+    for (uint32_t s = 0; s < 256; s++) append_both(&units, &in_cents, s, s, 0, (int64_t)s * 1000003 - 100000000);
+    gives(to_cents, units, none, in_cents, "cents: 256 records");
+    gives(from_cents, in_cents, none, units, "cents: 256 records back");
+    append_both(&units, &in_cents, 0, 0, 0, 0);
+    refuses(to_cents, units, none, MARS_BATCH_HEADER, 0, "cents: 257 records");
+    refuses(from_cents, in_cents, none, MARS_BATCH_HEADER, 0, "cents: 257 records back");
+}
+
 /* ---- texts */
 
 /* Reads a text of exactly these bytes; the totals must be those given, which are the numbers before where it has none. */
@@ -829,6 +938,7 @@ int main(int argc, char **argv) {
     expired_future(argv[3]);
     rewritings();
     worst_moments(argv[4]);
+    cents();
     texts();
     free(day.bytes);
     free(batch.bytes);

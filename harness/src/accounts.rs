@@ -1,6 +1,6 @@
 //! Random accounts, and accounts damaged so that each row of the table refuses some of them.
 use crate::fields::{self, Class, Record, Series, EQUITY, EXPIRED_FUTURE, TYPES};
-use crate::layout::{class_at, counts, series_at, CLASS_WORDS, OFFSET, PROJECTED, SERIES_WORDS, WHOLE_OFFSET};
+use crate::layout::{class_at, counts, series_at, CLASS_WORDS, LONGEST_BATCH, OFFSET, PROJECTED, SERIES_WORDS, WHOLE_OFFSET};
 use crate::reckoner::{is_option, is_security, reckon};
 use crate::rng::Rng;
 
@@ -492,14 +492,25 @@ fn whole(a: &Account) -> bool {
     a.day.len() == series_at(c, s) && a.batch.len() as u64 == 1 + 6 * p
 }
 
-fn flip(rng: &mut Rng, words: &mut [u32]) {
+/// The length of a memory for a batch, of which so many words are needed: mostly enough, else about these or any other.
+pub(crate) fn room_about(rng: &mut Rng, needed: usize) -> usize {
+    match rng.below(12) {
+        0 => needed,
+        1 => needed - 1,
+        2 => needed + 6,
+        3 => rng.below(needed as u64 + 9) as usize,
+        _ => LONGEST_BATCH,
+    }
+}
+
+pub(crate) fn flip(rng: &mut Rng, words: &mut [u32]) {
     if !words.is_empty() {
         let at = rng.below(words.len() as u64) as usize;
         words[at] ^= 1 << rng.below(32);
     }
 }
 
-fn cut(rng: &mut Rng, words: &mut Vec<u32>) {
+pub(crate) fn cut(rng: &mut Rng, words: &mut Vec<u32>) {
     let keep = rng.below(words.len() as u64 + 1) as usize;
     words.truncate(keep);
 }

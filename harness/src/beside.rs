@@ -1,5 +1,6 @@
-//! The calls that rewrite a batch, and the worst moment of a day, made by the unit and by the reckoner on the same inputs.
-use crate::accounts::Account;
+//! The calls that rewrite or convert a batch, and the worst moment of a day, made by the unit and by the reckoner on the same inputs.
+use crate::accounts::{room_about, Account};
+use crate::cents::Way;
 use crate::layout::LONGEST_BATCH;
 use crate::reckoner::Refusal;
 use crate::rewriting::{add_record, rewrite};
@@ -10,27 +11,49 @@ use crate::worst_moment::{course, Course};
 /// Words in front of a memory and behind it.
 const GUARD: usize = 8;
 
-/// A batch rewritten, or with a record added to it, in equal memories of so many words: the words written, or the refusal. All other words
-/// of the memory, those around it and the inputs must stay.
-pub fn compare(a: &Account, record: Option<&[u32]>, room: usize, fill: &mut Rng, case: &str) -> Result<Vec<u32>, Refusal> {
+/// A call made by both in equal memories of so many words: the words written, or the refusal. All other words of the memory and those around
+/// it must stay.
+fn compare_calls(
+    room: usize,
+    fill: &mut Rng,
+    case: &str,
+    theirs: impl FnOnce(&mut [u32]) -> Result<usize, Refusal>,
+    ours: impl FnOnce(&mut [u32]) -> Result<usize, Refusal>,
+) -> Result<Vec<u32>, Refusal> {
     let before: Vec<u32> = (0..room + 2 * GUARD).map(|_| fill.next() as u32).collect();
     let memory = GUARD..GUARD + room;
     let (mut around, mut expected) = (before.clone(), before[memory.clone()].to_vec());
-    let theirs = match record {
-        None => rewrite(&a.day, &a.batch, &mut expected),
-        Some(record) => add_record(&a.day, &a.batch, record, &mut expected),
-    };
-    let (day, batch, lent) = (a.day.clone(), a.batch.clone(), record.map(<[u32]>::to_vec));
-    let ours = match &lent {
-        None => unit::rewrite(&day, &batch, &mut around[memory.clone()]),
-        Some(record) => unit::add_record(&day, &batch, record, &mut around[memory.clone()]),
-    };
+    let (theirs, ours) = (theirs(&mut expected), ours(&mut around[memory.clone()]));
     assert_eq!(ours, theirs, "{case}");
     let written = GUARD..GUARD + ours.unwrap_or(0);
     assert!(around[memory] == expected, "memory: {case}");
     assert!(around[..GUARD] == before[..GUARD] && around[written.end..] == before[written.end..], "around: {case}");
-    assert!(day == a.day && batch == a.batch && lent.as_deref() == record, "inputs: {case}");
     ours.map(|_| around[written].to_vec())
+}
+
+/// A batch rewritten, or with a record added to it. The inputs must stay.
+pub fn compare(a: &Account, record: Option<&[u32]>, room: usize, fill: &mut Rng, case: &str) -> Result<Vec<u32>, Refusal> {
+    let (day, batch, lent) = (a.day.clone(), a.batch.clone(), record.map(<[u32]>::to_vec));
+    let theirs = |memory: &mut [u32]| match record {
+        None => rewrite(&a.day, &a.batch, memory),
+        Some(record) => add_record(&a.day, &a.batch, record, memory),
+    };
+    let ours = |memory: &mut [u32]| match &lent {
+        None => unit::rewrite(&day, &batch, memory),
+        Some(record) => unit::add_record(&day, &batch, record, memory),
+    };
+    let answer = compare_calls(room, fill, case, theirs, ours);
+    assert!(day == a.day && batch == a.batch && lent.as_deref() == record, "inputs: {case}");
+    answer
+}
+
+/// A batch converted. It must stay.
+pub fn compare_conversion(way: Way, batch: &[u32], room: usize, fill: &mut Rng, case: &str) -> Result<Vec<u32>, Refusal> {
+    let lent = batch.to_vec();
+    let theirs = |memory: &mut [u32]| way.convert(batch, memory);
+    let answer = compare_calls(room, fill, case, theirs, |memory| unit::convert(way, &lent, memory));
+    assert!(lent == batch, "inputs: {case}");
+    answer
 }
 
 /// The worst moment of a day, or the refusal, must be the reckoner's, and the inputs stay: the day step by step.
@@ -53,11 +76,5 @@ pub fn rewritten(a: &Account) -> Option<Vec<u32>> {
 /// A memory's length for a batch: mostly enough, else about the length that its rewriting needs or any other.
 pub fn room(rng: &mut Rng, a: &Account) -> usize {
     let needed = rewrite(&a.day, &a.batch, &mut [0; LONGEST_BATCH]).unwrap_or(1);
-    match rng.below(12) {
-        0 => needed,
-        1 => needed - 1,
-        2 => needed + 6,
-        3 => rng.below(needed as u64 + 9) as usize,
-        _ => LONGEST_BATCH,
-    }
+    room_about(rng, needed)
 }

@@ -4,6 +4,8 @@ pub mod additions;
 #[cfg(feature = "unit")]
 pub mod beside;
 pub mod cases;
+pub mod cents;
+pub mod conversions;
 pub mod deposits;
 pub mod editions;
 pub mod fields;

@@ -6,6 +6,7 @@ use crate::layout::{
     WHOLE_OFFSET,
 };
 
+pub mod cents;
 pub mod rewriting;
 pub mod worst_moment;
 
@@ -443,12 +444,16 @@ fn read_day(words: &[u32]) -> Result<Day<'_>, Refused> {
 
 /// Rows 20 and 21: the number of records.
 fn record_count(batch: &[u32]) -> Result<usize, Refused> {
-    let header = batch.first().copied().unwrap_or(0);
+    records_by_header(batch.first().copied().unwrap_or(0), batch.len())
+}
+
+/// The same of a batch of so many words, by its header; 0 where it has no words.
+fn records_by_header(header: u32, length: usize) -> Result<usize, Refused> {
     let records = payload(header) as usize;
     if kind(header) != 1 || records > MOST_RECORDS {
         return Err((20, 0));
     }
-    if batch.len() != 1 + 6 * records {
+    if length != 1 + 6 * records {
         return Err((21, 0));
     }
     Ok(records)

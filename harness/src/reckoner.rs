@@ -241,7 +241,7 @@ fn dvp(w: &[u32]) -> (bool, i128) {
 }
 
 /// Rows 22, 27 and 28, each over all words behind the header; the place is the word's index in the batch.
-fn check_words(batch: &[u32]) -> Result<(), Refusal> {
+pub(crate) fn check_words(batch: &[u32]) -> Result<(), Refusal> {
     let kinds = [2, 4, 4, 5, 6, 6];
     if let Some(i) = (1..batch.len()).find(|&i| kind(batch[i]) != kinds[(i - 1) % 6]) {
         return refuse(22, i);

@@ -135,3 +135,22 @@ pub fn check_worst_moment(case: &Case, call: impl FnOnce(&[u32], &[u32], &[u32])
     let told = answer.ok().map(|m| vec![m.margin as u64, m.step.into(), m.applied.into(), m.left_out.into()]);
     assert_eq!(told.as_ref(), case.fields.get("numbers"), "{}", case.name);
 }
+
+/// All cases of the calls that convert a batch.
+pub fn conversions() -> Vec<Case> {
+    cases("U11", 62)
+}
+
+/// Such a case: batch and memory.
+pub fn check_conversion(
+    case: &Case,
+    to_cents: impl FnOnce(&[u32], &mut [u32]) -> Result<usize, Refusal>,
+    from_cents: impl FnOnce(&[u32], &mut [u32]) -> Result<usize, Refusal>,
+) {
+    let batch = case.words("batch");
+    check(case, |memory| match case.call.as_str() {
+        "to_cents" => to_cents(&batch, memory),
+        "from_cents" => from_cents(&batch, memory),
+        _ => panic!("{}: no such call", case.name),
+    });
+}

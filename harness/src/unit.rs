@@ -1,4 +1,5 @@
 //! The unit's calls for a C host, linked from its static library; for the benchmark its netting alone.
+use crate::cents::Way;
 use crate::reckoner::Refusal;
 use crate::text_reading::Said;
 use crate::worst_moment::Moment;
@@ -51,6 +52,8 @@ extern "C" {
         applied: *mut u32,
         left_out: *mut u32,
     ) -> u64;
+    fn mars_to_cents(batch: *const u32, batch_len: usize, out: *mut u32, out_len: usize) -> u64;
+    fn mars_from_cents(batch: *const u32, batch_len: usize, out: *mut u32, out_len: usize) -> u64;
     fn mars_read_text(text: *const u8, text_len: usize, ordinary: *mut i64, fail: *mut i64, account: *mut i64) -> u64;
 }
 
@@ -163,6 +166,28 @@ pub fn worst_moment(day: &[u32], batch: &[u32], trades: &[u32]) -> Result<Moment
         Err(refusal) => assert_eq!(m, before, "{refusal:?}, yet a number was stored"),
     }
     answer.map(|_| m)
+}
+
+/// A batch converted to cents: its length in words, or the refusal.
+pub fn to_cents(batch: &[u32], memory: &mut [u32]) -> Result<usize, Refusal> {
+    let room = memory.len();
+    // No precondition: any slice of words to read and any one to write, which does not overlap it.
+    parts(unsafe { mars_to_cents(batch.as_ptr(), batch.len(), memory.as_mut_ptr(), room) })
+}
+
+/// A batch in cents converted back.
+pub fn from_cents(batch: &[u32], memory: &mut [u32]) -> Result<usize, Refusal> {
+    let room = memory.len();
+    // No precondition: any slice of words to read and any one to write, which does not overlap it.
+    parts(unsafe { mars_from_cents(batch.as_ptr(), batch.len(), memory.as_mut_ptr(), room) })
+}
+
+/// The call that converts a batch this way.
+pub fn convert(way: Way, batch: &[u32], memory: &mut [u32]) -> Result<usize, Refusal> {
+    match way {
+        Way::ToCents => to_cents(batch, memory),
+        Way::FromCents => from_cents(batch, memory),
+    }
 }
 
 /// A printed text read back. Numbers that are lent for the totals must stay unless the text is a report's.

@@ -1,9 +1,11 @@
 //! The benchmark's baseline against the reckoner: the same answers and memories.
 use harness::accounts::{accepted, account, damage, mixed, out_of_order};
 use harness::additions::mixed_addition;
+use harness::cents::Way;
+use harness::conversions::{mixed_batch, room};
 use harness::deposits::{mixed_case, shorts};
 use harness::layout::LONGEST_BATCH;
-use harness::plain::{self, NETS};
+use harness::plain::{self, cents, NETS};
 use harness::reckoner::{call_bytes, call_words, to_bytes, Refusal};
 use harness::rewriting::{add_record, rewrite};
 use harness::rng::Rng;
@@ -107,6 +109,26 @@ fn baseline_agrees_with_the_reckoner_on_worst_moments() {
     let table = [0, 10, 11, 12, 13, 14, 15, 16, 17, 18, 20, 21, 22, 23, 24, 25, 26, 27, 28, 30, 31, 62];
     assert_eq!(numbers.into_iter().collect::<Vec<_>>(), table);
     assert!(applied >= 9000 && left_out >= 1000);
+}
+
+#[test]
+fn baseline_agrees_with_the_reckoner_on_conversions() {
+    let mut rng = Rng::new(13);
+    for (way, plain, own) in
+        [(Way::ToCents, cents::to_cents as fn(&[u32], &mut [u32]) -> u64, 33), (Way::FromCents, cents::from_cents, 34)]
+    {
+        let mut numbers = BTreeSet::new();
+        for i in 0..6000 {
+            let batch = mixed_batch(&mut rng, way, i);
+            let room = room(&mut rng, &batch);
+            let (mut ours, mut theirs) = (vec![7; room], vec![7; room]);
+            let expected = packed(way.convert(&batch, &mut theirs));
+            assert_eq!(plain(&batch, &mut ours), expected, "{way:?}, case {i}");
+            assert_eq!(ours, theirs, "{way:?}, case {i}");
+            numbers.insert(expected >> 32);
+        }
+        assert_eq!(numbers.into_iter().collect::<Vec<_>>(), [0, 20, 21, 22, 27, 28, own, 40]);
+    }
 }
 
 #[test]

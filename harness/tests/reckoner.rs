@@ -1,6 +1,9 @@
 //! The reckoner against the vectors.
+use harness::cents::{from_cents, to_cents};
 use harness::reckoner::{call_bytes, call_words, reckon, text, to_words};
-use harness::requests::{check_report, check_rewriting, check_worst_moment, reports, rewritings, worst_moments};
+use harness::requests::{
+    check_conversion, check_report, check_rewriting, check_worst_moment, conversions, reports, rewritings, worst_moments,
+};
 use harness::rewriting::{add_record, rewrite};
 use harness::vectors::vectors;
 use harness::worst_moment::worst_moment;
@@ -24,5 +27,8 @@ fn agrees_with_the_cases_of_requests() {
     }
     for case in worst_moments() {
         check_worst_moment(&case, worst_moment);
+    }
+    for case in conversions() {
+        check_conversion(&case, to_cents, from_cents);
     }
 }

@@ -1,10 +1,12 @@
 //! The unit's calls timed in one run beside others that do the same work: the byte call, the call over words, with deposits too, a batch
-//! rewritten, with a record added too, the worst moment of a day, and netting alone beside plain Rust, all accounts of a broker in one call
-//! beside as many byte calls, a step of a day beside a whole report.
+//! rewritten, with a record added too, the worst moment of a day, a batch converted to cents and back, and netting alone beside plain Rust,
+//! all accounts of a broker in one call beside as many byte calls, a step of a day beside a whole report.
 //! Fails where a ratio is above its limit.
 //! From the top folder: `host/library.sh mars netting_times`; here `cargo run --release --features bench --bin bench`.
 use harness::accounts::{accepted, batch, Account, Size, LARGEST, TYPICAL};
 use harness::cases::LONGEST;
+use harness::cents::Way;
+use harness::conversions;
 use harness::deposits::half_covered;
 use harness::layout::{LONGEST_BATCH, MOST_RECORDS, MOST_TRADES};
 use harness::many::joined;
@@ -197,6 +199,19 @@ fn step_and_report(name: &str, size: Size, positions: usize, limit: f64) -> Figu
     })
 }
 
+/// A batch of 256 records converted, which no day file has a part in.
+fn converted(name: &str, way: Way, limit: f64) -> Figure {
+    let batch = conversions::batch(&mut Rng::new(11), way, MOST_RECORDS);
+    let name = format!("{name}, {MOST_RECORDS} records : plain Rust");
+    let unit = move |_: &[u32], batch: &[u32], _: &[u32], out: &mut [u32]| unit::convert(way, batch, out);
+    let plain = match way {
+        Way::ToCents => plain::cents::to_cents,
+        Way::FromCents => plain::cents::from_cents,
+    };
+    let plain = move |_: &[u32], batch: &[u32], _: &[u32], out: &mut [u32]| plain(batch, out);
+    word_call(name, Some(limit), (Account { day: Vec::new(), batch }, Vec::new()), unit, plain)
+}
+
 /// 64 accounts of one day file in one call, beside a byte call for each.
 fn all_accounts(name: &str, size: Size, limit: Option<f64>) -> Figure {
     let a = account(size);
@@ -293,6 +308,8 @@ fn main() {
         step("largest", LARGEST, 256, Some(1.5)),
         step("typical", TYPICAL, 40, None),
         step_and_report("largest", LARGEST, 256, 0.2),
+        converted("to cents", Way::ToCents, 2.0),
+        converted("from cents", Way::FromCents, 2.0),
         all_accounts("typical", TYPICAL, Some(0.8)),
         all_accounts("largest", LARGEST, None),
         netting(&format!("netting of {records} records : plain Rust, one table"), 10.0, 1, one_table),
