@@ -1,28 +1,27 @@
 -- The rows of both ways, a stage at a time, and what they leave to the answers. b is the batch.
-use Rattle.std.specs.Prelude.{◌≡◌, true, false, not, List, ℕ, ◌-◌, ◌≤◌, ◌<◌, pos, length, Ok, Err}
+use Rattle.std.specs.Prelude.{◌≡◌, true, false, not, List, ℕ, ◌-◌, ◌≤◌, pos, length, Ok, Err}
 use Rattle.std.proofs.Math.Path.{refl, sym, ap}
-use Rattle.std.proofs.Common.{◌∙◌, arith, eqb-true, ltb-false}
-use Rattle.std.proofs.lemmas.Bool.{not-false}
+use Rattle.std.proofs.Common.{◌∙◌, arith}
 use Rattle.numbers.specs.Abs.{nat_abs-*}
 use Rattle.model.specs.declared.Check.{Check}
 use Rattle.model.specs.declared.Check.TheVariants.{BatchHeader, BatchWords}
 use Rattle.model.specs.declared.BatchHeaderFault.TheVariants.{BadBatchHeader}
 use Rattle.model.specs.declared.BatchWordsFault.TheVariants.{CentsTooLarge}
 use Rattle.model.specs.Outcomes.{Answer, Verdict}
-use Rattle.model.specs.Limits.{cents_limit, most_records}
-use Rattle.model.specs.Words.{payload, bits}
+use Rattle.model.specs.Limits.{most_records}
+use Rattle.model.specs.Words.{payload}
 use Rattle.model.specs.Rows.{record_row}
-use Rattle.model.specs.Batch.{batch_header, record_count, headed, record_word, batch_words, dvp_amount, dvp_size}
+use Rattle.model.specs.Batch.{batch_header, record_count, headed, record_word, batch_words, dvp_amount}
 use Rattle.model.specs.BatchChecks.{batch_form}
 use Rattle.model.specs.Cents.{is_in_cents, cents_bit, unmarked, cent}
 use Rattle.model.specs.CentsChecks.{row34, to_cents_check, from_cents_check}
 use Rattle.model.specs.Calls.{answer_of, room_answer, outcome, written}
-use Rattle.model.proofs.Verdicts.{tried-passed, plain_failed, plain_passed, stage_failed, stage_passed, last_stage}
-use Rattle.model.proofs.Accepted.{clear, plain_clear}
+use Rattle.model.proofs.Verdicts.{plain_failed, plain_passed, stage_failed, stage_passed, last_stage}
 use Rattle.model.proofs.Sizes.{size-amount}
 use Rattle.model.proofs.Limits.{form_length, form_count}
 use Rattle.model.proofs.Headed.{headed_form}
-use Rattle.model.proofs.Cents.{headed_row34}
+use Rattle.model.proofs.Headed.{headed_size}
+use Rattle.model.proofs.Cents.{headed_row34, form_to, form_from, within}
 use Rattle.cents.specs.Converted.{Small}
 use Rattle.cents.specs.declared.Edition.TheVariants.{Units}
 
@@ -56,45 +55,32 @@ module _ (b : List ℕ) where
 
 -- the way to cents
 module _ (b : List ℕ) (e : to_cents_check b ≡ Ok tt) where
-  form_to : batch_form b ≡ Ok tt
-  unfolding to_cents_check
-  form_to = (tried-passed _ e).0
-
   pub whole_to : length b ≡ batch_words (record_count b)
-  whole_to = form_length b form_to
+  whole_to = form_length b (form_to b e)
 
   pub header_to : payload (batch_header b) ≤ most_records
-  header_to = form_count b form_to
+  header_to = form_count b (form_to b e)
 
 -- the way back
 module _ (b : List ℕ) (e : from_cents_check b ≡ Ok tt) where
-  pub bit_from : is_in_cents b ≡ true
-  unfolding from_cents_check
-  bit_from = not-false (is_in_cents b) (plain_clear (BatchHeader BadBatchHeader) (not (is_in_cents b)) (tried-passed _ e).0)
-
-  pub header_from : cents_bit ≤ batch_header b
-  header_from = omega (arith, eqb-true (bits (payload (batch_header b)) 28 1) 1 bit_from)
-
-  pub form_from : batch_form (unmarked b) ≡ Ok tt
-  unfolding from_cents_check
-  form_from = (tried-passed _ e).1.0
+  form : (length b ≡ batch_words (payload (batch_header b - cents_bit))) × (record_count (unmarked b) ≡ payload (batch_header b - cents_bit))
+  form = headed_form (batch_header b - cents_bit) b (form_from b e)
 
   pub whole_from : length b ≡ batch_words (payload (batch_header b - cents_bit))
-  whole_from = (headed_form (batch_header b - cents_bit) b form_from).0
-
-  limited : (r : ℕ) → r < record_count (unmarked b) → row34 (unmarked b) r ≡ false
-  unfolding from_cents_check
-  limited = clear (BatchWords CentsTooLarge) (row34 (unmarked b)) (record_count (unmarked b)) (tried-passed _ e).1.1.0
+  whole_from = form.0
 
   pub small_from : Small Units b (payload (batch_header b - cents_bit))
-  unfolding row34
   small_from =
       record {
         small =
             λ r h.
-            let f = headed_form (batch_header b - cents_bit) b form_from in
-            let l = ltb-false cents_limit (dvp_size b r) (ap (λ t. t r) (sym (headed_row34 (batch_header b - cents_bit) b)) ∙ limited r (omega (arith, f.1, h))) in
-            omega (arith, nat_abs-* (dvp_amount b r) (pos cent), size-amount (record_word b r 3) (record_word b r 4) (record_word b r 5), l);
+            omega (
+              arith,
+              nat_abs-* (dvp_amount b r) (pos cent),
+              size-amount (record_word b r 3) (record_word b r 4) (record_word b r 5),
+              headed_size (batch_header b - cents_bit) b r,
+              within b e r (omega (arith, form.1, h)),
+            );
       }
 
 -- ---- answers

@@ -23,12 +23,13 @@ use Rattle.model.specs.CentsCalls.{to_cents_answer, to_cents_after, from_cents_a
 use Rattle.model.proofs.Accepted.{clear_back, plain_back}
 use Rattle.model.proofs.Headed.{headed_header, headed_length, headed_word, words_of_headed}
 use Rattle.model.proofs.Limits.{form_length}
+use Rattle.model.proofs.Cents.{form_to, whole_cents, header_from, form_from}
 use Rattle.model.proofs.Sizes.{size-amount}
 use Rattle.model.proofs.Outcome.{outcome-passed, outcome-report, leaves_all, leaves_words}
 use Rattle.model.proofs.Verdicts.{◌then◌, tried_pass, plain_failed, stage_failed, stage_passed}
 use Rattle.corollaries.specs.CentsClaims.{ToCents, FromCents, Conversions}
 use Rattle.corollaries.specs.OtherAmounts.{amounts_length, amounts_header, record_is, amount_is, word_is}
-use Rattle.corollaries.specs.InCents.{cents, units, form_to, small_to, header_to_lem, back_passes_lem, back_lem, form_from, small_from, again_passes_lem, again_lem, marked_header, whole_cents}
+use Rattle.corollaries.specs.InCents.{cents, units, small_to, header_to_lem, back_passes_lem, back_lem, small_from, again_passes_lem, again_lem}
 use Rattle.corollaries.specs.Numbers.{to_cents_numbers, from_cents_numbers}
 
 -- ---- row 20 and the bit
@@ -85,6 +86,10 @@ module _ (b : List ℕ) where
 at_record : (c : List ℕ) (i : ℕ) → 0 < i → get_or c i 0 ≡ record_word c (record_of i) (field_of i)
 at_record c i h = let e : i ≡ batch_words (record_of i) + field_of i = omega arith in ap (λ n. get_or c n 0) e
 
+-- a word that is the same in its record
+word_same : (c b : List ℕ) (i : ℕ) → 0 < i → record_word c (record_of i) (field_of i) ≡ record_word b (record_of i) (field_of i) → get_or c i 0 ≡ get_or b i 0
+word_same c b i h e = at_record c i h ∙ e ∙ sym (at_record b i h)
+
 module _ (b : List ℕ) (e : ToCents b) where
   abbrev marking : ℕ
   marking = batch_header (with_amounts cents b) + cents_bit
@@ -95,10 +100,7 @@ module _ (b : List ℕ) (e : ToCents b) where
   words_to_lem : (i : ℕ) → 0 < i → i < length b → field_of i < 3 → get_or (to_cents b) i 0 ≡ get_or b i 0
   words_to_lem i p h l =
       let r : record_of i < record_count b = omega (arith, h, form_length b (form_to b e)) in
-      at_record (to_cents b) i p
-      ∙ headed_word marking (with_amounts cents b) (record_of i) (field_of i)
-      ∙ word_is cents b (record_of i) r (field_of i) l
-      ∙ sym (at_record b i p)
+      word_same (to_cents b) b i p (headed_word marking (with_amounts cents b) (record_of i) (field_of i) ∙ word_is cents b (record_of i) r (field_of i) l)
 
   module _ (r : ℕ) (h : r < record_count b) where
     amount_to_lem : dvp_amount (to_cents b) r *ℤ pos cent ≡ dvp_amount b r
@@ -121,15 +123,12 @@ module _ (b : List ℕ) (e : FromCents b) where
   header_from_lem : batch_header (from_cents b) + cents_bit ≡ batch_header b
   header_from_lem =
       let filled : 0 < length b = omega (arith, form_length (unmarked b) (form_from b e), headed_length unmarking b) in
-      omega (arith, amounts_header units (unmarked b), headed_header unmarking b filled, marked_header b e)
+      omega (arith, amounts_header units (unmarked b), headed_header unmarking b filled, header_from b e)
 
   words_from_lem : (i : ℕ) → 0 < i → i < length b → field_of i < 3 → get_or (from_cents b) i 0 ≡ get_or b i 0
   words_from_lem i p h l =
       let r : record_of i < record_count (unmarked b) = omega (arith, h, form_length (unmarked b) (form_from b e), headed_length unmarking b) in
-      at_record (from_cents b) i p
-      ∙ word_is units (unmarked b) (record_of i) r (field_of i) l
-      ∙ headed_word unmarking b (record_of i) (field_of i)
-      ∙ sym (at_record b i p)
+      word_same (from_cents b) b i p (word_is units (unmarked b) (record_of i) r (field_of i) l ∙ headed_word unmarking b (record_of i) (field_of i))
 
   module _ (r : ℕ) (h : r < record_count (unmarked b)) where
     amount_from_lem : dvp_amount (from_cents b) r ≡ units (dvp_amount b r)

@@ -2,8 +2,7 @@
 use Rattle.std.specs.Prelude.{◌≡◌, true, not, List, [], ◌∷◌, ℕ, ◌+◌, ◌*◌, ◌%◌, ◌^◌, ◌≤◌, ◌<◌, ℤ, pos, ◌*ℤ◌, nat_abs, length, Ok}
 use Rattle.std.specs.Int.Signed.{quot_z}
 use Rattle.std.proofs.Math.Path.{refl, sym, ap}
-use Rattle.std.proofs.Common.{◌∙◌, subst, arith, eqb-true, eq-eqb, ltb-false, le-ltb}
-use Rattle.std.proofs.lemmas.Bool.{not-false}
+use Rattle.std.proofs.Common.{◌∙◌, subst, arith, eq-eqb, le-ltb}
 use Rattle.numbers.specs.Abs.{nat_abs-*}
 use Rattle.numbers.specs.Quot.{size-quot, quot_mul, mul_quot}
 use Rattle.model.specs.declared.Check.TheVariants.{BatchHeader, BatchWords}
@@ -16,11 +15,12 @@ use Rattle.model.specs.Batch.{batch_header, record_count, record_word, dvp_amoun
 use Rattle.model.specs.BatchChecks.{batch_form}
 use Rattle.model.specs.Cents.{is_in_cents, cents_bit, marked, unmarked, cent, with_amounts, to_cents, from_cents}
 use Rattle.model.specs.CentsChecks.{row33, row34, to_cents_check, from_cents_check}
-use Rattle.model.proofs.Accepted.{clear, clear_back, plain_clear, plain_back}
+use Rattle.model.proofs.Accepted.{clear_back, plain_back}
 use Rattle.model.proofs.Headed.{headed_header}
+use Rattle.model.proofs.Cents.{form_to, whole_cents, header_from, form_from, within}
 use Rattle.model.proofs.Limits.{form_count}
 use Rattle.model.proofs.Sizes.{size-amount}
-use Rattle.model.proofs.Verdicts.{◌then◌, tried-passed, tried_pass}
+use Rattle.model.proofs.Verdicts.{◌then◌, tried_pass}
 use Rattle.corollaries.specs.RightRecords.{size_limited}
 use Rattle.corollaries.specs.OtherAmounts.{amounts_length, amounts_header, size_is, amounts_twice, right, amounts_same, still_form}
 use Rattle.corollaries.specs.CentsClaims.{ToCents, FromCents}
@@ -48,16 +48,8 @@ own_size b r = size-amount (record_word b r 3) (record_word b r 4) (record_word 
 -- ---- to cents
 
 module _ (b : List ℕ) (e : ToCents b) where
-  pub form_to : batch_form b ≡ Ok tt
-  unfolding to_cents_check
-  form_to = (tried-passed _ e).0
-
-  pub whole_cents : (r : ℕ) → r < record_count b → dvp_size b r % cent ≡ 0
-  unfolding to_cents_check row33
-  whole_cents r h = let l = ltb-false 0 (dvp_size b r % cent) (clear (BatchWords NotWholeCents) (row33 b) (record_count b) (tried-passed _ e).1.0 r h) in omega arith
-
   size_to : (r : ℕ) → r < record_count b → nat_abs (cents (dvp_amount b r)) ≤ cents_limit
-  size_to r h = omega (arith, size-quot (dvp_amount b r) cent, own_size b r, size_limited b r (right b form_to r h))
+  size_to r h = omega (arith, size-quot (dvp_amount b r) cent, own_size b r, size_limited b r (right b (form_to b e) r h))
 
   pub small_to : (r : ℕ) → r < record_count b → nat_abs (cents (dvp_amount b r)) < 2 ^ 63
   small_to r h = omega (arith, size_to r h)
@@ -69,7 +61,7 @@ module _ (b : List ℕ) (e : ToCents b) where
   header_to_lem = headed_header (batch_header (with_amounts cents b) + cents_bit) (with_amounts cents b) filled_to ∙ ap (λ (h : ℕ). h + cents_bit) (amounts_header cents b)
 
   bit_to : is_in_cents (to_cents b) ≡ true
-  bit_to = eq-eqb (bits (payload (batch_header (to_cents b))) 28 1) 1 (omega (arith, header_to_lem, form_count b form_to))
+  bit_to = eq-eqb (bits (payload (batch_header (to_cents b))) 28 1) 1 (omega (arith, header_to_lem, form_count b (form_to b e)))
 
   pub back_passes_lem : FromCents (to_cents b)
   unfolding from_cents_check row34
@@ -78,7 +70,7 @@ module _ (b : List ℕ) (e : ToCents b) where
       let u = unmarked-marked c in
       tried_pass _
       (plain_back (BatchHeader BadBatchHeader) _ (ap not bit_to)
-      then (ap batch_form u ∙ still_form b form_to cents (λ r h. omega (arith, size_to r h)))
+      then (ap batch_form u ∙ still_form b (form_to b e) cents (λ r h. omega (arith, size_to r h)))
       then subst (λ (w : List ℕ). record_row (BatchWords CentsTooLarge) (row34 w) (record_count w) ≡ Ok tt) (sym u)
       (clear_back (BatchWords CentsTooLarge) (row34 c) (record_count c) (λ r h.
       let l : r < record_count b = omega (arith, h, ap payload (amounts_header cents b)) in
@@ -89,31 +81,16 @@ module _ (b : List ℕ) (e : ToCents b) where
   back_lem =
       ap (with_amounts units) (unmarked-marked (with_amounts cents b))
       ∙ amounts_twice cents units b small_to
-      ∙ amounts_same b form_to (λ z. units (cents z)) (λ r h. quot_mul cent (dvp_amount b r) (omega (arith, own_size b r, whole_cents r h)))
+      ∙ amounts_same b (form_to b e) (λ z. units (cents z)) (λ r h. quot_mul cent (dvp_amount b r) (omega (arith, own_size b r, whole_cents b e r h)))
 
 -- ---- from cents
 
 module _ (b : List ℕ) (e : FromCents b) where
-  bit_from : is_in_cents b ≡ true
-  unfolding from_cents_check
-  bit_from = not-false (is_in_cents b) (plain_clear (BatchHeader BadBatchHeader) (not (is_in_cents b)) (tried-passed _ e).0)
-
-  pub marked_header : cents_bit ≤ batch_header b
-  marked_header = omega (arith, eqb-true (bits (payload (batch_header b)) 28 1) 1 bit_from)
-
-  pub form_from : batch_form (unmarked b) ≡ Ok tt
-  unfolding from_cents_check
-  form_from = (tried-passed _ e).1.0
-
-  within : (r : ℕ) → r < record_count (unmarked b) → dvp_size (unmarked b) r ≤ cents_limit
-  unfolding from_cents_check row34
-  within r h = ltb-false cents_limit (dvp_size (unmarked b) r) (clear (BatchWords CentsTooLarge) (row34 (unmarked b)) (record_count (unmarked b)) (tried-passed _ e).1.1.0 r h)
-
   size_from : (r : ℕ) → nat_abs (units (dvp_amount (unmarked b) r)) ≡ dvp_size (unmarked b) r * cent
   size_from r = nat_abs-* (dvp_amount (unmarked b) r) (pos cent) ∙ ap (λ (n : ℕ). n * cent) (own_size (unmarked b) r)
 
   pub small_from : (r : ℕ) → r < record_count (unmarked b) → nat_abs (units (dvp_amount (unmarked b) r)) < 2 ^ 63
-  small_from r h = omega (arith, size_from r, within r h)
+  small_from r h = omega (arith, size_from r, within b e r h)
 
   pub again_passes_lem : ToCents (from_cents b)
   unfolding to_cents_check row33
@@ -121,7 +98,7 @@ module _ (b : List ℕ) (e : FromCents b) where
       let u = unmarked b in
       let c = from_cents b in
       tried_pass _
-      (still_form u form_from units (λ r h. omega (arith, size_from r, within r h))
+      (still_form u (form_from b e) units (λ r h. omega (arith, size_from r, within b e r h))
       then clear_back (BatchWords NotWholeCents) (row33 c) (record_count c) (λ r h.
       let l : r < record_count u = omega (arith, h, ap payload (amounts_header units u)) in
       le-ltb 0 (dvp_size c r % cent) (omega (arith, size_is units u r l (small_from r l), size_from r)))
@@ -131,5 +108,5 @@ module _ (b : List ℕ) (e : FromCents b) where
   again_lem =
       ap marked
       (amounts_twice units cents (unmarked b) small_from
-      ∙ amounts_same (unmarked b) form_from (λ z. cents (units z)) (λ r h. mul_quot cent (dvp_amount (unmarked b) r) (omega arith)))
-      ∙ marked-unmarked b marked_header
+      ∙ amounts_same (unmarked b) (form_from b e) (λ z. cents (units z)) (λ r h. mul_quot cent (dvp_amount (unmarked b) r) (omega arith)))
+      ∙ marked-unmarked b (header_from b e)

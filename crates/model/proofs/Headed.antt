@@ -9,7 +9,7 @@ use Rattle.model.specs.declared.WordRow.TheVariants.{Row22, Row27, Row28}
 use Rattle.model.specs.Limits.{dvp_amount_limit}
 use Rattle.model.specs.Words.{kind, payload, bits, magnitude, negative}
 use Rattle.model.specs.Rows.{tried, record_row}
-use Rattle.model.specs.Batch.{batch_header, record_count, headed, record_word, batch_words}
+use Rattle.model.specs.Batch.{batch_header, record_count, headed, record_word, dvp_size, batch_words}
 use Rattle.model.specs.BatchChecks.{record_kind, record_limit, dvp_out_of_range, dvp_minus_zero, wrong_kind, out_of_range, minus_zero, at_word, row22, row27, row28, row_of, fault_of, words_check, word_check, row21, batch_form}
 use Rattle.model.proofs.Verdicts.{tried-passed}
 use Rattle.model.proofs.Accepted.{plain_clear}
@@ -40,6 +40,9 @@ module _ (h : ℕ) (b : List ℕ) where
 
   pub words_of_headed : record_word (headed h b) ≡ record_word b
   words_of_headed = fun_ext (λ r. fun_ext (λ i. headed_word r i))
+
+  pub headed_size : (r : ℕ) → dvp_size (headed h b) r ≡ dvp_size b r
+  headed_size r = λ i. magnitude (words_of_headed i r 3) (words_of_headed i r 4) (words_of_headed i r 5)
 
   rows_same : (w : WordRow) → row_of w (headed h b) ≡ row_of w b
   unfolding row22 row27 row28 wrong_kind out_of_range minus_zero dvp_out_of_range dvp_minus_zero

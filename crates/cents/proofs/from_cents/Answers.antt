@@ -6,9 +6,9 @@ use Rattle.model.specs.Calls.{written}
 use Rattle.model.specs.Cents.{from_cents, cents_bit}
 use Rattle.model.specs.CentsChecks.{from_cents_check}
 use Rattle.model.specs.CentsCalls.{from_cents_answer, from_cents_after}
-use Rattle.model.proofs.Cents.{converted_headed}
+use Rattle.model.proofs.Cents.{converted_headed, header_from}
 use Rattle.cents.specs.Converted.{amount_in, batch_in}
-use Rattle.cents.specs.Stages.{header_from, whole_from, small_from, refused, answered, leaves}
+use Rattle.cents.specs.Stages.{whole_from, small_from, refused, answered, leaves}
 use Rattle.cents.proofs.from_cents.Goals as goal
 use Rattle.cents.specs.declared.Edition.TheVariants.{Units}
 use Rattle.cents.proofs.from_cents.Goals.{After-write_in_room, In_ok-check_from_cents, After-payload}
