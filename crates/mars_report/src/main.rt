@@ -6,7 +6,7 @@ use std::fs::File;
 use std::io;
 use std::io::Write;
 use text::lines::LONGEST_TEXT;
-use whole_file::read_whole;
+use whole_file::{read_full, whole_front};
 
 fn main(rt: HostRuntime) -> io::Result<()> {
     // Each buffer holds one word more than the longest form, so that a longer file is seen.
@@ -15,9 +15,12 @@ fn main(rt: HostRuntime) -> io::Result<()> {
     let mut out = [0u8; LONGEST_TEXT];
     let mut day_file = File::open(&rt, "day.w32").ok();
     let mut batch_file = File::open(&rt, "pos.w32").ok();
+    // Both are read before either is asked for what is left, which takes a byte: both names may stand for one terminal.
+    let days = read_full(&mut day_file, &mut day);
+    let positions = read_full(&mut batch_file, &mut batch);
     let n = program::print_files(
-        read_whole(&mut day_file, &mut day),
-        read_whole(&mut batch_file, &mut batch),
+        whole_front(&mut day_file, &day, days),
+        whole_front(&mut batch_file, &batch, positions),
         &mut out,
     );
     rt.stdout().write_all(&out[..n])

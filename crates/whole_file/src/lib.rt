@@ -45,6 +45,22 @@ pub fn was_read<R: Read>(file: &mut Option<R>, full: bool) -> bool
     file.is_some() && (full || read_some(file, &mut more) == Some(0))
 }
 
+// What was read of a file over the front of a buffer, n bytes, where it was read whole or fills the buffer; else None, also where it was not opened.
+pub fn whole_front<'a, R: Read>(
+    file: &mut Option<R>,
+    buffer: &'a [u8],
+    n: usize,
+) -> Option<&'a [u8]>
+    requires { IsPrefixLen n buffer.now }
+    ensures opened { (IsNone file.old → IsNone result) × (IsSome file.old → n ≡ length buffer.now → IsSome result) }
+    ensures front { IfSome result (λ bytes. bytes.now ≡ take n buffer.now) }
+    ensures bytes { IfSome result (λ _. Consumes (left R.remaining file.old) (left R.remaining file.new) []) }
+    ensures end { IfSome result (λ _. n < length buffer.now → IsAtEnd (left R.remaining file.new)) }
+{
+    let full = n == buffer.len();
+    was_read(file, full).then_some(&buffer[..n])
+}
+
 // The bytes of a file, over the front of the buffer, which those of a longer file fill; None where it was not opened or not read whole.
 pub fn read_whole<'a, R: Read>(file: &mut Option<R>, buffer: &'a mut [u8]) -> Option<&'a [u8]>
     ensures opened { IsNone file.old → IsNone result }
@@ -52,6 +68,5 @@ pub fn read_whole<'a, R: Read>(file: &mut Option<R>, buffer: &'a mut [u8]) -> Op
     ensures end { IfSome result (λ bytes. length bytes.now < length buffer.old → IsAtEnd (left R.remaining file.new)) }
 {
     let n = read_full(file, buffer);
-    let full = n == buffer.len();
-    was_read(file, full).then_some(&buffer[..n])
+    whole_front(file, buffer, n)
 }
