@@ -1,6 +1,6 @@
 #!/bin/sh
 # Runs the report program on files that are missing, are folders, fail when read, are ragged, or are too long: by a byte, a word, or
-# without end.
+# without end; and on one terminal for both.
 set -eu
 cd "$(dirname "$0")/.."
 program=$PWD/crates/mars_report/out/mars_report
@@ -56,5 +56,13 @@ check "a batch of a word more than the longest" "REFUSED 2 0"
 head -c "$batch" /dev/zero >"$work/pos.w32"
 check "a batch as long as the longest" "REFUSED 20 0"
 check "the sample" "$(cat crates/mars_report/stdout)"
+
+# both names may stand for one terminal, which goes on behind the day file's end, with the batch: both are read before either is
+# asked for more
+cc -std=c11 -Wall -Wextra -Werror -O2 vectors/terminal.c -o "$work/terminal"
+ln -sf /proc/self/fd/0 "$work/day.w32"
+ln -sf /proc/self/fd/0 "$work/pos.w32"
+printed=$(cd "$work" && ./terminal "$program" "$good/day.w32" "$good/pos.w32") || printed="status $?"
+[ "$printed" = "$(cat crates/mars_report/stdout)" ] || { echo "files: one terminal for both: '$printed'" >&2; failed=1; }
 [ "$failed" = 0 ] || exit 1
 echo "files: as expected"
